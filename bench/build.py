@@ -22,11 +22,11 @@ MARK = b"compiled with checks, and not proved"
 # The small programs: the crates that each uses itself, and the files of programs/ that it is made of, if they are more than its own.
 USED = {
     "levels": ["ere", "matcher", "query"],
-    "limits": ["ere", "finder", "lines", "matcher"],
+    "limits": ["ere", "engine", "lines", "matcher"],
     "lists": ["ere", "trigram", "index"],
     "matching": ["ere", "lines", "matcher"],
     "preparing": ["ere", "trigram"],
-    "readings": ["shared"],
+    "readings": ["index", "prepare", "search", "published"],
     "stack": ["ere", "lines", "matcher"],
     "trigrams": ["ere", "trigram", "index"],
 }

@@ -1,5 +1,5 @@
-"""What a pattern asks of the trigrams of a document: the analysis of docs/DEFINITIONS.md over Python's values, for trees without
-alternatives.
+"""What a pattern asks of the trigrams of a document: the analysis of trigram/specs/Analysis.antt over Python's values, for trees
+without alternatives.
 
 A tree is Text, some bytes; Range, one byte of a range; Cat, trees one after the other; or Times, so many copies of a tree.
 """

@@ -32,15 +32,15 @@ def with_those_below(names, lines):
     return found
 
 
-def copy_crates(folder, names, own="", kept=False):
+def copy_crates(folder, names, own="", kept=False, rights=""):
     """Copies these crates and those below them into a folder, as a repository. If `own` names a crate, the repository has
-    that one too, which uses these. With `kept`, what `rt` keeps of crates that are proved already is copied as well."""
+    that one too, which uses these, and has these rights. With `kept`, what `rt` keeps of crates that are proved already is copied as well."""
     lines = lines_of_crates()
     used = with_those_below(names, lines)
     for name in used:
         left_out = () if kept else ("out",)
         shutil.copytree(TOP / "crates" / name, pathlib.Path(folder, "crates", name), ignore=shutil.ignore_patterns(*left_out))
-    written = [lines[name] for name in used] + (["%s: %s" % (own, " ".join(names))] if own else [])
+    written = [lines[name] for name in used] + ([f"{own} {rights}".strip() + ": " + " ".join(names)] if own else [])
     pathlib.Path(folder, "crates.txt").write_text("\n".join(written) + "\n", encoding="utf-8")
     shutil.copy(TOP / "HANDLES", folder)
     subprocess.run(["git", "init", "-q", folder], check=True)

@@ -1,16 +1,13 @@
 #!/usr/bin/env python3
-"""Compares docs/DEFINITIONS.md with the definitions of the crates' specs/, and writes the part of the page that comes from them.
+"""Looks at the public definitions of the crates' specs/, and compares docs/DEFINITIONS.md with them.
 
-A public definition is one that is `pub` in a file of specs/ that is not Private. The page says in one of two ways what it means:
+A public definition is one that is `pub` in a file of specs/ that is not Private. Each has a comment above it, or docs/DEFINITIONS.md
+explains it: a paragraph with the list after it has the name in code type, in a section whose title names the crate. If the name has
+several definitions or is an ordinary word, the file must stand there in code type too.
 
-- In the part that is written by hand: a paragraph with the list after it, or a row of a table, has the name in code type, in a section
-  whose title names the crate. If the name has several definitions or is an ordinary word, the file must stand there in code type too.
-- By a line of the last section, with the comment above the definition. Without a comment it is a fault.
-
-The last section also lists the names that have several definitions. --write writes it; without --write it must be as --write would
-leave it. Of the part that is written by hand, each name in the first column of a table must be public in the file that follows it
-there, each file must be one of a crate that the section's title or the paragraph names, and each other name in code type must be in
-some source or spec.
+Of the page, each file must be one of a crate that the section's title or the paragraph names, and each other name in code type must be in
+some source or spec. Its last section lists the names that have several definitions. --write writes that section; without --write it must
+be as --write would leave it.
 
 Usage: tests/definitions.py [--write]   The last line counts: N passed, M failed.
 """
@@ -25,7 +22,7 @@ from counted import Counted
 
 PAGE = TOP / "docs/DEFINITIONS.md"
 CRATES = TOP / "crates"
-LAST = "Further names"
+LAST = "Names with several definitions"
 BEGIN = re.compile(r"((?:  )?)((?:unfoldable|abbrev) |)pub (record |data |)([^\W\d][\w'-]*)")
 CODE = re.compile(r"`([^`\n]+)`")
 # what is written like a name of the specs, and not like an ordinary word
@@ -42,9 +39,6 @@ class Definition:
         self.below = self.file.partition("/specs/")[2]
         self.place = f"crates/{self.file}:{line}"
         self.comment = comment
-
-    def line(self):
-        return f"- `{self.name}`: {self.comment}"
 
 
 def definitions_of(path):
@@ -74,7 +68,7 @@ def all_definitions():
 
 
 class Block:
-    """A paragraph with the list after it, or a row of a table: where it begins, the crates of its section, and what it says."""
+    """A paragraph with the list after it: where it begins, the crates of its section, and what it says."""
 
     def __init__(self, line, crates, lines):
         self.place = f"docs/DEFINITIONS.md:{line}"
@@ -89,19 +83,6 @@ class Block:
         """Whether the definition is explained here; `alone` if its name needs no file beside it."""
         with_file = alone or definition.file in self.files or definition.below in self.files
         return definition.crate in self.crates and definition.name in self.names and with_file
-
-    def first_column(self):
-        """For a row of a table, each name of its first column with the file that follows it; None if there is none."""
-        if not self.lines[0].startswith("|"):
-            return
-        names = []
-        for code in CODE.findall(self.lines[0].split(" | ")[0]):
-            if code.endswith((".antt", ".rt")):
-                yield from [(name, code) for name in names]
-                names = []
-            else:
-                names.append(code.split()[0])
-        yield from [(name, None) for name in names]
 
 
 def parts_of_page():
@@ -125,22 +106,13 @@ def parts_of_page():
     return hand, blocks, title, lines
 
 
-def last_section(definitions, explained):
+def last_section(definitions):
     """The lines of the last section after its title."""
     files = collections.defaultdict(list)
     for definition in definitions:
         files[definition.name].append(f"`{definition.file}`")
-    yield from ["", "This section is written by `tests/definitions.py --write`, from the files of `specs/`.", ""]
-    yield from ["These names have more than one definition, most of them with different meanings:", ""]
+    yield from ["", "This section is written by `tests/definitions.py --write`. Most of these definitions have different meanings.", ""]
     yield from [f"- `{name}`: {', '.join(files[name])}" for name in sorted(files) if len(files[name]) > 1]
-    yield from ["", "These definitions are not explained above. Each is here by its file, with the comment above it there."]
-    file = None
-    for definition in definitions:
-        if definition not in explained:
-            if definition.file != file:
-                file = definition.file
-                yield from ["", f"**`{file}`**", ""]
-            yield definition.line()
     yield ""
 
 
@@ -161,25 +133,13 @@ def words_of(crate):
     return {word for path in paths for word in re.findall(r"\w+", path.read_text(encoding="utf-8"))}
 
 
-def is_public(name, file, crates, definitions):
-    """Whether one of these crates has this public definition in this file, or in any if it is None, or this word in a source."""
-    if file is not None and file.endswith(".rt"):
-        texts = [(CRATES / crate / file).read_text(encoding="utf-8") for crate in crates if (CRATES / crate / file).is_file()]
-        return any(re.search(rf"\b{name}\b", text) for text in texts)
-    return any(name == other.name and other.crate in crates and file in (None, other.file, other.below) for other in definitions)
-
-
-def faults_of_block(block, definitions):
+def faults_of_block(block):
     """Which names and files of a block are not there, or None for each that is."""
     for file in sorted(block.files):
         crates = [*block.crates, *block.names]
         there = (CRATES / file).is_file() or any((CRATES / crate / "specs" / file).is_file() for crate in crates)
         yield None if there else f"{block.place}: no crate of the section, and none named here, has a file {file} in its specs"
-    column = dict(block.first_column())
-    for name, file in column.items():
-        there = is_public(name, file, block.crates, definitions)
-        yield None if there else f"{block.place}: `{name}` is not public in {file or 'the specs of the section'}"
-    for name in sorted(block.names - set(column)):
+    for name in sorted(block.names):
         if NAME.fullmatch(name):
             there = any(name in words_of(crate.name) for crate in sorted(CRATES.iterdir()))
             yield None if there else f"{block.place}: no source and no spec has the name `{name}`"
@@ -191,18 +151,14 @@ def main():
     definitions = all_definitions()
     hand, blocks, title, last = parts_of_page()
     count = collections.Counter(definition.name for definition in definitions)
-    explained = set()
-    for definition in definitions:
-        alone = count[definition.name] == 1 and NAME.fullmatch(definition.name) is not None
-        if any(block.explains(definition, alone) for block in blocks):
-            explained.add(definition)
-    expected = list(last_section(definitions, explained))
+    expected = list(last_section(definitions))
     if sys.argv[1:]:
         PAGE.write_text("\n".join([hand + title, *expected]), encoding="utf-8")
         return
     counted = Counted()
     for definition in definitions:
-        if definition in explained or definition.comment:
+        alone = count[definition.name] == 1 and NAME.fullmatch(definition.name) is not None
+        if definition.comment or any(block.explains(definition, alone) for block in blocks):
             counted.passes()
         else:
             counted.fails(
@@ -210,9 +166,9 @@ def main():
                 f"in a section whose title names `{definition.crate}`"
             )
     for block in blocks:
-        counted.judge(faults_of_block(block, definitions))
+        counted.judge(faults_of_block(block))
     counted.judge(faults_of_last(last, expected))
-    print(f"{len(definitions)} public definitions, {len(definitions) - len(explained)} of them by their comments")
+    print(f"{len(definitions)} public definitions, {sum(not definition.comment for definition in definitions)} of them without a comment")
     counted.end()
 
 

@@ -24,6 +24,7 @@ import re
 import subprocess
 import sys
 import tempfile
+import time
 
 from built import PROGRAM, TOP, need_program
 from counted import Counted, Wrong
@@ -183,13 +184,15 @@ class Runs:
 
     def instructions_of_a_talk(self, way, script, rounds):
         """How many instructions the thread that takes the items executes if a client sends a script, and then so many lines of no known
-        form, each once the one before is refused."""
+        form, each a while after the one before is refused. A thread that waits looks again some times before it sleeps; if the next line
+        came meanwhile, the count would be of chance."""
 
         def talk(command):
             with Session(program=command) as session:
                 session.send(script)
                 for number in range(rounds):
                     session.ask(b"what\n", b"line %d refused: bad line\n" % (script.count(b"\n") + 1 + number))
+                    time.sleep(0.02)
                 session.process.stdin.close()
                 session.process.wait(SECONDS)
 
@@ -473,7 +476,7 @@ def columns_far_along_a_line_by_the_simulation(n):
 
 
 def columns_of_empty_matches(n):
-    """Beyond a search for the same lines. The first match of each is empty and at its front; the engine passes over the line once."""
+    """Beyond a search for the same lines. The first match of each is empty and at its front."""
     lines = put(b"a", (b"a" * n + b"\n") * 20) + b"publish\n"
     return lines + b"find -- %s\n" % EMPTY_STARS, lines + b"find --column -- %s\n" % EMPTY_STARS
 
@@ -483,7 +486,8 @@ def spans_of_a_line_by_the_simulation(n):
 
 
 def spans_of_whole_words_in_a_long_line(n):
-    """A match begins at each byte, and only the last is a whole word."""
+    """A match begins at each byte, and only the last is a whole word. Its start is found by halving, in passes whose number grows with the
+    line's logarithm."""
     return after(put(b"a", b"a" * n + b" a\n") + b"publish\n", b"find -w --spans -- (([ab]{0,30}){31}c?)*d|a\n")
 
 
@@ -520,8 +524,7 @@ def length_of_a_pattern_behind_words(n):
 
 
 def whole_words_far_from_the_end_of_a_line(n):
-    """Beyond a search for the same lines. Both matches of each line are at its front, and the first of them is no whole word. What is
-    left of a line is only asked for an empty match."""
+    """Beyond a search for the same lines. Both matches of each line are at its front, and the first of them is no whole word."""
     lines = put(b"a", (b"xs x " + b"a" * n + b"\n") * 10) + b"publish\n"
     return lines + b"find -w -- x\n", lines + b"find -w --column -- x\n"
 
@@ -610,12 +613,12 @@ GROWTHS = [
     Row(documents_while_some_are_removed, 1000, (SESSION,)),
     Row(columns_far_along_a_line, 3_000, (SESSION,), 6),
     Row(columns_far_along_a_line_by_the_simulation, 4_000, (SESSION,), 6),
-    Row(columns_of_empty_matches, 1_000, (SESSION,)),
+    Row(columns_of_empty_matches, 1_000, (SESSION,), LEVEL),
     Row(spans_of_a_line_by_the_simulation, 1_000, (SESSION,)),
-    Row(spans_of_whole_words_in_a_long_line, 400, (SESSION,)),
+    Row(spans_of_whole_words_in_a_long_line, 400, (SESSION,), 6),
     Row(spans_of_a_pattern_that_can_be_empty, 400, (SESSION,)),
     Row(whole_words_in_long_lines, 3_000, (SESSION,), 6),
-    Row(whole_words_far_from_the_end_of_a_line, 1_000, (SESSION,)),
+    Row(whole_words_far_from_the_end_of_a_line, 1_000, (SESSION,), LEVEL),
     Row(lines_that_match_at_their_front, 1_000, (SESSION,), LEVEL, LEVEL),
     Row(lines_in_which_nothing_begins_any_more, 1_000, (SESSION,), LEVEL, LEVEL),
     Row(lines_without_a_match_that_match_at_their_front, 1_000, (SESSION,), LEVEL, LEVEL),
@@ -1001,6 +1004,7 @@ def searches_have_no_limit_without_a_clock(runs):
         for what, clock, late in ("that goes", {}, 1), ("that cannot be read", {"BROKEN": "1"}, 0):
             _, text = runs.with_a_clock(words, script, **clock)
             yield f"searches that are too slow by a clock {what}, with {readers} readers", text.count(b" refused: too slow"), late, late
+            yield f"searches that are answered with a clock {what}, with {readers} readers", text.count(b"search 1 version 2 lines "), 1 - late, 1 - late
 
 
 def searches_that_wait_are_few(runs):
@@ -1056,8 +1060,8 @@ def publishes_change_one_copy(runs):
 
 def copies_are_brought_up_to_date_once(runs):
     """A session that waits for items brings the second copy up to date when it first waits after a publish, and not each time."""
-    pending, shown = (runs.instructions_of_a_talk(SESSION_OF_ONE_READER, put(b"a", b"x") + b"publish\n" * count, 400) for count in (0, 1))
-    yield "instructions of the first thread for 400 waits behind a publish", shown - pending, -pending, 400 * 400
+    pending, shown = (runs.instructions_of_a_talk(SESSION_OF_ONE_READER, put(b"a", b"x") + b"publish\n" * count, 200) for count in (0, 1))
+    yield "instructions of the first thread for 200 waits behind a publish", shown - pending, -pending, 200 * 200
 
 
 def small_documents_are_searched_as_a_large_one(runs):

@@ -27,8 +27,7 @@ a script is judged (judge/transcripts.py): the entries must be those of NAME.std
 bash script of SEVERAL_ANSWERS compares its answers in their order itself, and is run as a session without readers only.
 
 The case `architecture` runs nothing: it compares docs/ARCHITECTURE.md with the sources. Each line of an example must be in
-the test that the document names, and each function of the ways of a put, a search and a session in one of the files that are
-named next to it. Each file that this document or another one of PAGES names must be there.
+the test that the document names. Each file that this document or another one of PAGES names must be there.
 
 The case `README` runs each command that README.md shows after `$ `, at the top of a copy of what the repository shows there.
 The command must write the lines below it, and nothing to standard error. Lines that are typed are not compared: those of a session
@@ -75,7 +74,6 @@ CLIENTS = TOP / "clients"
 ARCHITECTURE = TOP / "docs/architecture"
 README = TOP / "README"
 PAGES = ["README.md", "docs/ARCHITECTURE.md", "docs/GLOSSARY.md", "docs/LIMITS.md", "docs/PROVED.md", "docs/TESTING.md"]
-FIRST_WAY = "## A put, from the script to the index\n"
 EMBEDDING = "## Using the crates by themselves\n"
 READERS = ["0"] if GIVEN.compiled else ["16"] if GIVEN.again else ["0", "1", "2", "16"]
 SESSIONS = ["0", "2"] if GIVEN.compiled else READERS
@@ -286,20 +284,6 @@ def lines_of_function(path, name):
     return [line.strip() for line in found[1].splitlines()]
 
 
-def compare_stops(text):
-    """Compares each row of the ways of a put, a search and a session, which names files and functions, with the files."""
-    rows = re.findall(r"^\| (`[\w/]+\.rt`(?:, `[\w/]+\.rt`)*) \| (`\w+`(?:, `\w+`)*) \|", text, re.MULTILINE)
-    ways = text.split(FIRST_WAY)[1].split(EMBEDDING)[0]
-    if len(rows) != len(re.findall(r"^\| (?!file \|)", ways, re.MULTILINE)):
-        raise Wrong("a row of a way does not name a file and a function")
-    for files, functions in rows:
-        sources = [TOP / "crates" / path for path in re.findall(r"[\w/]+\.rt", files)]
-        found = {name for path in sources if path.exists() for name in re.findall(r"\bfn (\w+)", path.read_text())}
-        missing = set(re.findall(r"\w+", functions)) - found
-        if missing:
-            raise Wrong(f"{files} has no {', '.join(sorted(missing))}")
-
-
 def compare_examples(text):
     """Compares each example of the section on embedding with the function that the next paragraph names first."""
     section = text.split(EMBEDDING)[1].split("\n## ")[0]
@@ -319,14 +303,13 @@ def compare_files(pages):
     paths = [path.relative_to(TOP).parts for folder in folders for path in (TOP / folder).rglob("*.*")]
     ends = {"/".join(parts[at:]) for parts in paths if "out" not in parts for at in range(len(parts))}
     for page in pages:
-        missing = set(re.findall(r"`([\w/]+\.(?:rt|antt|py|md))`", (TOP / page).read_text())) - ends
+        missing = set(re.findall(r"`([\w/]+\.(?:rt(?:\.txt)?|antt|py|md))`", (TOP / page).read_text())) - ends
         if missing:
             raise Wrong(f"{page}: there is no file {', '.join(sorted(missing))}")
 
 
 def compare_architecture(base):
     text = base.with_name("ARCHITECTURE.md").read_text()
-    compare_stops(text)
     compare_examples(text)
     compare_files(PAGES)
 

@@ -1,6 +1,6 @@
 #!/usr/bin/env python3
 """Shows that a search cannot take a lock where it has no right to wait: a look at the published index with a lock around it does not
-compile. The tests of `shared` are what is compiled, with the crates below them.
+compile. The proved tests are what is compiled, with the crates below them.
 
 A call that may wait for another thread takes a handle with the bound `Wait`. `Reading::look`, `counts`, `learn` and `seen` get no
 such handle, and neither does `search::take`, which a search looks with. The compiler refuses the code before the prover sees it, so it cannot be an edit of must-fail.
@@ -31,8 +31,8 @@ WANTED = "the trait bound `Global: Wait` is not satisfied"
 
 def main():
     with tempfile.TemporaryDirectory() as folder:
-        copies.copy_crates(folder, ["shared_tests"])
-        crate = pathlib.Path(folder, "crates", "shared_tests")
+        copies.copy_crates(folder, ["proved_tests"])
+        crate = pathlib.Path(folder, "crates", "proved_tests")
         text = (crate / "src/fixtures.rt").read_text(encoding="utf-8")
         if text.count(OLD) != 1:
             sys.exit(f"{script_name()}: fixtures.rt does not have the line to replace")

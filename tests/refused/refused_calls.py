@@ -1,7 +1,7 @@
 #!/usr/bin/env python3
 """Refuses each request for memory of a small program over the libraries in turn, and checks what the calls answer.
 
-The program, refused_calls.rt.txt, makes the calls of `index`, `search` and `shared` that take memory. If a call is refused, it must
+The program, refused_calls.rt.txt, makes the calls of `index`, `search` and `published` that take memory. If a call is refused, it must
 say that memory ran out and nothing else, give back what it was given, and leave everything as it was; the same call must then do
 its work. The program writes the same text whatever is refused, unless something is wrong.
 
@@ -25,7 +25,7 @@ import copies  # noqa: E402
 from counted import Counted  # noqa: E402
 from refused import counting  # noqa: E402
 
-USES = ["ere", "query", "index", "search", "shared"]
+USES = ["ere", "query", "index", "prepare", "views", "search", "published"]
 WANTED = b"each call did its work, at once or after a refusal\n"
 
 

@@ -5,6 +5,7 @@ use Rattle.std.proofs.lemmas.Bool.Decides.{nat_tests}
 use Rattle.std.proofs.lemmas.Nat.Bits.{bit_at-lt, bit_at_and, bit_at_or, bit_at-zero, shr_and_one, bit_at_not, bit_at_set_same, bit_at_set_other}
 use Rattle.std.specs.Prelude.{bit_and, bit_or}
 use Rattle.std.specs.Int.{bit_at, bit_not}
+use Rattle.std.proofs.Math.Bool.{and_comm}
 use Rattle.ere.specs.Bits.{has_bit}
 
 -- tests of numbers below 2
@@ -61,15 +62,9 @@ has_one_bit bit b inside =
 pub has_with : (word bit b : ℕ) → bit < 64 → has_bit (bit_or word (1 * 2 ^ bit % 2 ^ 64)) b ≡ (has_bit word b || b == bit)
 has_with word bit b inside = has_or word (1 * 2 ^ bit % 2 ^ 64) b ∙ ap (λ t. has_bit word b || t) (has_one_bit bit b inside)
 
-and_swap : (x y : Bool) → (x && y) ≡ (y && x)
-and_swap true true = refl
-and_swap true false = refl
-and_swap false true = refl
-and_swap false false = refl
-
 pub has_only : (word bit b : ℕ) → bit < 64 → has_bit (bit_and word (1 * 2 ^ bit % 2 ^ 64)) b ≡ (b == bit && has_bit word b)
 has_only word bit b inside =
-    has_and word (1 * 2 ^ bit % 2 ^ 64) b ∙ ap (λ t. has_bit word b && t) (has_one_bit bit b inside) ∙ and_swap (has_bit word b) (b == bit)
+    has_and word (1 * 2 ^ bit % 2 ^ 64) b ∙ ap (λ t. has_bit word b && t) (has_one_bit bit b inside) ∙ and_comm (has_bit word b) (b == bit)
 
 pub has_without : (word other b : ℕ) → other < 2 ^ 64 → b < 64 → has_bit (bit_and word (bit_not w64 other)) b ≡ (has_bit word b && not (has_bit other b))
 has_without word other b small inside = has_and word (bit_not w64 other) b ∙ ap (λ t. has_bit word b && t) (has_not other b small inside)

@@ -5,6 +5,7 @@ use Rattle.std.specs.List.{AllByRecursion}
 use Rattle.std.specs.Str.{bytes_eq}
 use Rattle.std.proofs.lemmas.Slice.Eq.{bytes_eq-Decides}
 use Rattle.std.proofs.lemmas.Bool.Decides.{nat_tests}
+use Rattle.std.proofs.lemmas.Bool.{eqb-true}
 use Rattle.ere.specs.ByteSet.{has, single, bytes_between, union, complement, is_line_byte}
 use Rattle.ere.specs.Classes.{class_named}
 use Rattle.ere.specs.declared.case.Case.{Case}
@@ -47,18 +48,15 @@ and_false : (a b : Bool) → (a ≡ true → b ≡ false) → IsFalse (a && b)
 and_false true b h = h refl
 and_false false b h = refl
 
-eqb_true : (a b : ℕ) → (a == b) ≡ true → a ≡ b
-eqb_true a b h = grind (arith, nat_tests)
-
 -- a byte that opens no symbol is plain
 plain_byte : (x : ℕ) (rest : List ℕ) → (x ≡ 91 → IsFalse (opens_symbol rest)) → IsPlain (x ∷ rest)
 plain_byte x rest h = record {
   no_class =
       and_false (x == 91) (begins_with 58 rest)
-      (λ e. (or_false (begins_with 46 rest) (begins_with 61 rest) (begins_with 58 rest) (h (eqb_true x 91 e))).2);
+      (λ e. (or_false (begins_with 46 rest) (begins_with 61 rest) (begins_with 58 rest) (h (eqb-true x 91 e))).2);
   no_equivalence =
       and_false (x == 91) (begins_with 61 rest)
-      (λ e. (or_false (begins_with 46 rest) (begins_with 61 rest) (begins_with 58 rest) (h (eqb_true x 91 e))).1);
+      (λ e. (or_false (begins_with 46 rest) (begins_with 61 rest) (begins_with 58 rest) (h (eqb-true x 91 e))).1);
 }
 
 plain_symbol : (x : ℕ) (rest : List ℕ) → IsPlain (91 ∷ 46 ∷ x ∷ rest)
@@ -260,10 +258,6 @@ one_bracket {case} from r q s t (brackets.non_matching i o e b is) (brackets.non
     let same : i ≡ j = cc in
     let found = one_items true i r q o p b (subst (λ v. SpellsItems true v (93 ∷ q) p) (sym same) c) in
     (found.0, is ∙ ap (λ v. complement (read_in case v)) found.1 ∙ sym is2)
-
-pub ends_plain : (from : List ℕ) (high : ℕ) (rest : List ℕ) → IsRangeEnd from high rest → IsPlain from
-ends_plain from high rest (range_end.byte e a b) = subst IsPlain (sym e) (plain_byte high rest b)
-ends_plain from high rest (range_end.symbol e) = subst IsPlain (sym e) (plain_symbol high (46 ∷ 93 ∷ rest))
 
 or_falls : (a b c : Bool) → a ≡ false → b ≡ false → c ≡ false → IsFalse (a || (b || c))
 or_falls false false false e f g = refl

@@ -1,9 +1,11 @@
 -- What the steps of the reader of bracket expressions find at an offset of a text.
-use Rattle.std.proofs.Common.{◌≡◌, ◌≢◌, ℕ, zero, suc, ◌+◌, ◌-◌, ◌<◌, ◌≤◌, Bool, true, false, not, ◌&&◌, ◌||◌, ◌==◌, IsTrue, IsFalse, List}
-use Rattle.std.proofs.Common.{[], ◌∷◌, ◌++◌, length, get_or, take, drop, Some, None, Result, Ok, Err, IfErr, IfOk, refl, sym, ap, ◌∙◌}
+use Rattle.std.proofs.Common.{◌≡◌, ◌≢◌, ℕ, zero, suc, ◌+◌, ◌-◌, ◌<◌, ◌≤◌, Bool, true, false, not, ◌==◌, IsTrue, IsFalse, List}
+use Rattle.std.proofs.Common.{[], ◌∷◌, ◌++◌, length, get_or, take, drop, Some, None, Result, Ok, Err, IfErr, refl, sym, ap, ◌∙◌}
 use Rattle.std.proofs.Common.{subst, arith, inl, inr, ◌⊎◌}
 use Rattle.std.proofs.lemmas.List.{take-append-drop, drop-drop, drop_all, take_at}
 use Rattle.std.proofs.lemmas.Bool.Decides.{nat_tests}
+use Rattle.std.proofs.lemmas.Bool.{or_left, and_parts, eqb-true}
+use Rattle.ere.proofs.TokenLemmas.{tail_of}
 use native.Mathlib.Decide.{dec_lt}
 use Rattle.ere.specs.declared.case.Case.{Case}
 use Rattle.ere.specs.ByteSet.{single, bytes_between}
@@ -12,9 +14,9 @@ use Rattle.ere.specs.Brackets.{begins_with, range_ahead, IsCharacterClass, IsRan
 use Rattle.ere.specs.Brackets.{IsRangeStart as range_start, IsRangeEnd as range_end, SpellsItem as item, SpellsItems as items, SpellsBracket as brackets}
 use Rattle.ere.specs.Private.Reading.{opens_with, IsSymbol, IsSymbolEnd, IsByteOrSymbol}
 use Rattle.ere.specs.Private.Reading.{IsByteOrSymbol as byte_or_symbol}
-use Rattle.ere.proofs.Texts.{front, Stands, Stands-read, Stands-begins, read_at, first_begins, eqb_is}
+use Rattle.ere.proofs.Texts.{front, Stands, Stands-read, Stands-begins, read_at, first_begins}
 use Rattle.ere.proofs.BracketLemmas.{head_of, ItemView, ItemView as view, item_view, IsPlain, NoColon, no_colon, one_byte_or_symbol}
-use Rattle.ere.proofs.BracketLemmas.{mark_clash, items_left, ends_plain, plain_opens}
+use Rattle.ere.proofs.BracketLemmas.{mark_clash, items_left, plain_opens}
 
 -- what holds, for a result that may be an error
 pub if_err : {T E : Type 0} (r : Result T E) (P : Type 0) → P → IfErr r (λ _. P)
@@ -23,10 +25,6 @@ if_err (Err e) P p = p
 
 pub next : (text : List ℕ) (a b : ℕ) → a < length text → b ≡ a + 1 → drop a text ≡ get_or text a 0 ∷ drop b text
 next text a b inside e = front text a inside ∙ ap (λ k. get_or text a 0 ∷ drop k text) (sym e)
-
-and_parts : (a b : Bool) → IsTrue (a && b) → IsTrue a × IsTrue b
-and_parts true b h = (refl, h)
-and_parts false b h = absurd (cc)
 
 -- `[` and a mark are at an offset
 pub record Opens (text : List ℕ) (at mark : ℕ) : Type 0 where
@@ -41,7 +39,7 @@ Opens-opens_with text at mark h = go (dec_lt at (length text))
         let parts =
         and_parts (get_or text at 0 == 91) (begins_with mark (drop (at + 1) text))
         (subst (λ t. IsTrue (opens_with mark t)) (front text at inside) h) in
-        record { bracket = Stands-read text at 91 inside (eqb_is _ 91 parts.0); marked = Stands-begins text (at + 1) mark parts.1 }
+        record { bracket = Stands-read text at 91 inside (eqb-true _ 91 parts.0); marked = Stands-begins text (at + 1) mark parts.1 }
     go (no outside) = absurd (let none : IsTrue (opens_with mark []) = subst (λ t. IsTrue (opens_with mark t)) (drop_all at text (omega arith)) h in cc)
 
 pub opens_then : (text : List ℕ) (at mark : ℕ) → IsTrue (begins_with 91 (drop at text)) → begins_with mark (drop (at + 1) text) ≡ opens_with mark (drop at text)
@@ -135,9 +133,6 @@ class_unknown text at p behind ends first unknown name rest set e known = go (de
         let found : class_named (take (p - (at + 2)) (drop (at + 2) text)) ≡ Some set = rw same known in
         cc
 
-tail_of : {x y : ℕ} {r q : List ℕ} → x ∷ r ≡ y ∷ q → r ≡ q
-tail_of e = ap (drop 1) e
-
 no_range_end : (rest : List ℕ) → IsFalse (range_ahead (93 ∷ rest))
 no_range_end [] = refl
 no_range_end (b ∷ rest) = refl
@@ -146,7 +141,7 @@ no_range_end (b ∷ rest) = refl
 pub last_dash : (from rest : List ℕ) → from ≡ 45 ∷ rest → IsTrue (begins_with 93 rest) → SpellsItem false from rest (single 45)
 last_dash from [] e h = absurd (cc)
 last_dash from (b ∷ rest) e h =
-    let closes : b ≡ 93 = eqb_is b 93 h in
+    let closes : b ≡ 93 = eqb-true b 93 h in
     item.byte 45 e (record { bracket = λ f. absurd (omega (arith, f)); dash = λ _. h; opening = λ f. absurd (omega (arith, f)) })
     (subst (λ x. IsFalse (range_ahead (x ∷ rest))) (sym closes) (no_range_end rest)) refl
 
@@ -194,15 +189,11 @@ IsAhead-range_ahead text at h = go (dec_lt (at + 1) (length text))
         front text at (omega arith) ∙ ap (λ t. get_or text at 0 ∷ t) (front text (at + 1) inside) in
         let parts = and_parts (get_or text at 0 == 45) (not (get_or text (at + 1) 0 == 93)) (subst (λ t. IsTrue (range_ahead t)) two h) in
         record {
-          dash = Stands-read text at 45 (omega arith) (eqb_is _ 45 parts.0);
+          dash = Stands-read text at 45 (omega arith) (eqb-true _ 45 parts.0);
           inside = inside;
           open_end = λ e. absurd (let closes : IsTrue (not (93 == 93)) = subst (λ b. IsTrue (not (b == 93))) e parts.1 in cc);
         }
     go (no outside) = absurd (let none : range_ahead (drop at text) ≡ false = ahead_last text at (omega arith) in cc)
-
--- the end of a range is no class and no equivalence class
-pub end_plain : (from : List ℕ) (high : ℕ) (rest : List ℕ) → IsRangeEnd from high rest → IsPlain from
-end_plain from high rest end = ends_plain from high rest end
 
 pub end_found : (from : List ℕ) (high : ℕ) (rest : List ℕ) (closes : IsFalse (begins_with 93 from)) → IsPlain from
     → IsByteOrSymbol from high rest → IsRangeEnd from high rest
@@ -210,20 +201,12 @@ end_found from high rest closes plain (byte_or_symbol.byte e o) =
     range_end.byte e (λ f. absurd (let t : IsTrue (begins_with 93 from) = rw (e, f) refl in cc)) (plain_opens from high rest e plain o)
 end_found from high rest closes plain (byte_or_symbol.symbol e) = range_end.symbol e
 
-pub if_ok_map : {T E : Type 0} (r : Result T E) (P Q : T → Type 0) → ((x : T) → P x → Q x) → IfOk r P → IfOk r Q
-if_ok_map (Ok x) P Q f p = f x p
-if_ok_map (Err e) P Q f p = tt
-
 pub if_err_map : {T E : Type 0} (r : Result T E) (P Q : E → Type 0) → ((e : E) → P e → Q e) → IfErr r P → IfErr r Q
 if_err_map (Ok x) P Q f p = tt
 if_err_map (Err e) P Q f p = f e p
 
 pub plain_from : (from : List ℕ) → false ≡ opens_with 58 from → false ≡ opens_with 61 from → IsPlain from
 plain_from from a b = record { no_class = sym a; no_equivalence = sym b }
-
-or_left : (a b : Bool) → IsTrue a → IsTrue (a || b)
-or_left true b h = refl
-or_left false b h = absurd (cc)
 
 -- the first byte may stand for itself as far as `]` and `-` go
 pub record MayBegin (first : Bool) (from : List ℕ) : Type 0 where
@@ -304,13 +287,6 @@ pub hat_fails : {case : Case} → (from after : List ℕ) → from ≡ 94 ∷ af
 hat_fails from after e none rest t (brackets.matching m h a is) = absurd (let hat : IsTrue (begins_with 94 from) = rw e (first_begins 94 after) in cc)
 hat_fails from after e none rest t (brackets.non_matching items others f a is) =
     none rest others (subst (λ v. SpellsItems true v (93 ∷ rest) others) (tail_of (sym f ∙ e)) a)
-
-pub no_hat_fails : {case : Case} → (from : List ℕ) → IsFalse (begins_with 94 from)
-    → ((rest : List ℕ) (t : List Bool) → SpellsItems true from (93 ∷ rest) t → ⊥) → (rest : List ℕ) (t : List Bool)
-    → SpellsBracket case from rest t → ⊥
-no_hat_fails from h none rest t (brackets.matching m k a is) = none rest m a
-no_hat_fails from h none rest t (brackets.non_matching items others f a is) =
-    absurd (let hat : IsTrue (begins_with 94 from) = rw f (first_begins 94 items) in cc)
 
 pub eqb_differs : (a b : ℕ) → a ≢ b → (a == b) ≡ false
 eqb_differs a b h = grind (arith, nat_tests)

@@ -14,7 +14,7 @@ mod GrammarLemmas
 mod PartLemmas
 mod ReaderSteps
 mod TreeLaws
-mod Sizes
+pub mod Sizes
 mod EdgeLemmas
 mod LiteralLemmas
 mod FrameLemmas

@@ -1,9 +1,7 @@
 -- A tree is within the limits in one way at most.
 use Rattle.std.specs.Prelude.{ℕ, ◌≤◌, Option, Some, None, IfSome}
-use Rattle.std.specs.Option.{ForSome}
 use Rattle.std.specs.Coded.{×_prop, Unit-prop, le_prop}
-use Rattle.ere.specs.declared.tree.Ere.{Ere}
-use Rattle.ere.specs.Tree.{Tree, empty, set, at_start, at_end, cat, alt, repeat, Trees, none, more, form}
+use Rattle.ere.specs.Tree.{Tree, empty, set, at_start, at_end, cat, alt, repeat, Trees, none, more}
 use Rattle.ere.specs.Limits.{HasTwo, IsProper, AreProper, IsWithinLimits}
 
 HasTwo-prop : (trees : Trees) → IsProp (HasTwo trees)
@@ -33,6 +31,3 @@ mutual
 
 pub IsWithinLimits-prop : (tree : Tree) → IsProp (IsWithinLimits tree)
 IsWithinLimits-prop tree = hlevel (IsProper-prop tree, le_prop)
-
-pub ForSome-prop : (tree : Option Ere) → IsProp (ForSome tree (λ e. IsWithinLimits (form e)))
-ForSome-prop tree = hlevel IsWithinLimits-prop

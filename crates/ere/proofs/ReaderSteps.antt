@@ -15,12 +15,13 @@ use Rattle.ere.specs.Spelling.{SpellsDuplications, SpellsAtom, SpellsPiece, Spel
 use Rattle.ere.specs.Spelling.{SpellsAtom as atoms, SpellsPiece as pieces_are, SpellsBranch as branches_are, SpellsAlternatives as alternatives_are}
 use Rattle.std.specs.Result.{IsErrAnd, OnErr}
 use Rattle.std.specs.Prelude.{Result, Ok, Err, IfErr, IfOk}
+use Rattle.std.proofs.lemmas.Bool.{and_parts, or_cases, eqb-true}
+use Rattle.ere.specs.declared.token.Token.{Token as ReadToken}
 use Rattle.ere.specs.declared.parts.Part.{Part}
 use Rattle.ere.specs.declared.parts.Members.{Members}
-use Rattle.ere.specs.Private.Reading.{Ends, EndsBranch, NoTimes, NoDuplication, ends_branch, join, Reads, IsBuilt, AreBuilt}
+use Rattle.ere.specs.Private.Reading.{meaning, Ends, EndsBranch, NoTimes, NoDuplication, ends_branch, join, Reads, IsBuilt, AreBuilt}
 use Rattle.ere.specs.Private.Reading.{ReadsDuplications, ReadsAtom, ReadsPiece, ReadsBranch, ReadsAlternatives, HasNoTokens, NoAtom}
 use Rattle.ere.specs.Private.Reading.{NoPiece, NoBranch, NoAlternatives}
-use Rattle.ere.proofs.Texts.{eqb_is}
 use Rattle.ere.proofs.BracketSteps.{eqb_differs}
 use Rattle.ere.proofs.TokenLemmas.{one_token, no_token}
 use Rattle.ere.proofs.GrammarLemmas.{piece_begins, branch_begins, one_alternatives, duplications_push, branch_push, alternatives_push}
@@ -87,97 +88,42 @@ bar_spelled from to e = spelled.byte 124 e (bar_token _ to)
 pub closes_spelled : {case : Case} → (from to : List ℕ) → from ≡ 41 ∷ to → SpellsToken case from to token.closes
 closes_spelled from to e = spelled.byte 41 e (closes_token _ to)
 
+module _ (w : Token) where
+  skip : (c : Bool) (x y : Option Token) → (x ≡ Some w → ⊥) → (y ≡ Some w → ⊥) → cond c x y ≡ Some w → ⊥
+  skip true x y f h e = f e
+  skip false x y f h e = h e
+
+  pass : (c : Bool) (x y : Option Token) → c ≡ false → (y ≡ Some w → ⊥) → cond c x y ≡ Some w → ⊥
+  pass true x y f h e = absurd (cc)
+  pass false x y f h e = h e
+
 bar_byte : (case : Case) → (b : ℕ) (text : List ℕ) → b ≢ 124 → token_of_byte case b text ≡ Some token.bar → ⊥
 unfolding token_of_byte
 bar_byte case b text other e =
-    skip (b == 46) _ _ (λ f. cc)
-    (skip (b == 40) _ _ (λ f. cc)
-    (skip (b == 41) _ _ (λ f. cc)
-    (pass (b == 124) _ _ (eqb_differs b 124 other)
-    (skip (b == 94) _ _ (λ f. cc)
-    (skip (b == 36) _ _ (λ f. cc)
-    (skip (b == 42) _ _ (λ f. cc)
-    (skip (b == 43) _ _ (λ f. cc)
-    (skip (b == 63) _ _ (λ f. cc)
-    (skip (b == 91 || (b == 92 || (b == 123 && digit_ahead text))) _ _ (λ f. cc) (λ f. cc)))))))))) e
-  where
-    skip : (c : Bool) (x y : Option Token) → (x ≡ Some token.bar → ⊥) → (y ≡ Some token.bar → ⊥) → cond c x y ≡ Some token.bar → ⊥
-    skip true x y f h e = f e
-    skip false x y f h e = h e
-
-    pass : (c : Bool) (x y : Option Token) → c ≡ false → (y ≡ Some token.bar → ⊥) → cond c x y ≡ Some token.bar → ⊥
-    pass true x y f h e = absurd (cc)
-    pass false x y f h e = h e
+    skip token.bar (b == 46) _ _ (λ f. cc)
+    (skip token.bar (b == 40) _ _ (λ f. cc)
+    (skip token.bar (b == 41) _ _ (λ f. cc)
+    (pass token.bar (b == 124) _ _ (eqb_differs b 124 other)
+    (skip token.bar (b == 94) _ _ (λ f. cc)
+    (skip token.bar (b == 36) _ _ (λ f. cc)
+    (skip token.bar (b == 42) _ _ (λ f. cc)
+    (skip token.bar (b == 43) _ _ (λ f. cc)
+    (skip token.bar (b == 63) _ _ (λ f. cc)
+    (skip token.bar (b == 91 || (b == 92 || (b == 123 && digit_ahead text))) _ _ (λ f. cc) (λ f. cc)))))))))) e
 
 closes_byte : (case : Case) → (b : ℕ) (text : List ℕ) → b ≢ 41 → token_of_byte case b text ≡ Some token.closes → ⊥
 unfolding token_of_byte
 closes_byte case b text other e =
-    skip (b == 46) _ _ (λ f. cc)
-    (skip (b == 40) _ _ (λ f. cc)
-    (pass (b == 41) _ _ (eqb_differs b 41 other)
-    (skip (b == 124) _ _ (λ f. cc)
-    (skip (b == 94) _ _ (λ f. cc)
-    (skip (b == 36) _ _ (λ f. cc)
-    (skip (b == 42) _ _ (λ f. cc)
-    (skip (b == 43) _ _ (λ f. cc)
-    (skip (b == 63) _ _ (λ f. cc)
-    (skip (b == 91 || (b == 92 || (b == 123 && digit_ahead text))) _ _ (λ f. cc) (λ f. cc)))))))))) e
-  where
-    skip : (c : Bool) (x y : Option Token) → (x ≡ Some token.closes → ⊥) → (y ≡ Some token.closes → ⊥) → cond c x y ≡ Some token.closes → ⊥
-    skip true x y f h e = f e
-    skip false x y f h e = h e
-
-    pass : (c : Bool) (x y : Option Token) → c ≡ false → (y ≡ Some token.closes → ⊥) → cond c x y ≡ Some token.closes → ⊥
-    pass true x y f h e = absurd (cc)
-    pass false x y f h e = h e
-
-or_true : (a b : Bool) → IsTrue (a || b) → (a ≡ true) ⊎ (b ≡ true)
-or_true true b h = inl refl
-or_true false b h = inr h
-
-and_true : (a b : Bool) → (a && b) ≡ true → (a ≡ true) × (b ≡ true)
-and_true true b h = (refl, h)
-and_true false b h = absurd (cc)
-
--- where a branch ends, its tokens end
-pub ends_tokens : {case : Case} → (depth : ℕ) (to : List ℕ) (ts : List Token) → IsTrue (ends_branch depth to) → Tokens case to ts → EndsBranch ts depth
-ends_tokens depth [] ts h a = subst (λ v. EndsBranch v depth) (sym (no_tokens ts a)) tt
-ends_tokens zero (b ∷ text) ts h a = go (or_true (b == 124) false h)
-  where
-    go : ((b == 124) ≡ true) ⊎ (false ≡ true) → EndsBranch ts zero
-    go (inl e) =
-        let found = first_token (b ∷ text) text token.bar ts (bar_spelled (b ∷ text) text (ap (λ v. v ∷ text) (eqb_is b 124 e))) a in
-        subst (λ v. EndsBranch v zero) (sym found.2) tt
-    go (inr e) = absurd (cc)
-ends_tokens (suc depth) (b ∷ text) ts h a = go (or_true (b == 124) (nat_lt 0 (suc depth) && b == 41) h)
-  where
-    go : ((b == 124) ≡ true) ⊎ ((nat_lt 0 (suc depth) && b == 41) ≡ true) → EndsBranch ts (suc depth)
-    go (inl e) =
-        let found = first_token (b ∷ text) text token.bar ts (bar_spelled (b ∷ text) text (ap (λ v. v ∷ text) (eqb_is b 124 e))) a in
-        subst (λ v. EndsBranch v (suc depth)) (sym found.2) tt
-    go (inr e) =
-        let found =
-        first_token (b ∷ text) text token.closes ts
-        (closes_spelled (b ∷ text) text (ap (λ v. v ∷ text) (eqb_is b 41 (and_true (nat_lt 0 (suc depth)) (b == 41) e).1))) a in
-        subst (λ v. EndsBranch v (suc depth)) (sym found.2) tt
-
-pub all_ends_tokens : {case : Case} → (depth : ℕ) (to : List ℕ) (ts : List Token) → IsTrue (ends_branch depth to)
-    → IsFalse (begins_with 124 to) → Tokens case to ts → Ends ts depth
-all_ends_tokens depth [] ts h k a = subst (λ v. Ends v depth) (sym (no_tokens ts a)) tt
-all_ends_tokens zero (b ∷ text) ts h k a = go (or_true (b == 124) false h)
-  where
-    go : ((b == 124) ≡ true) ⊎ (false ≡ true) → Ends ts zero
-    go (inl e) = absurd (cc)
-    go (inr e) = absurd (cc)
-all_ends_tokens (suc depth) (b ∷ text) ts h k a = go (or_true (b == 124) (nat_lt 0 (suc depth) && b == 41) h)
-  where
-    go : ((b == 124) ≡ true) ⊎ ((nat_lt 0 (suc depth) && b == 41) ≡ true) → Ends ts (suc depth)
-    go (inl e) = absurd (cc)
-    go (inr e) =
-        let found =
-        first_token (b ∷ text) text token.closes ts
-        (closes_spelled (b ∷ text) text (ap (λ v. v ∷ text) (eqb_is b 41 (and_true (nat_lt 0 (suc depth)) (b == 41) e).1))) a in
-        subst (λ v. Ends v (suc depth)) (sym found.2) tt
+    skip token.closes (b == 46) _ _ (λ f. cc)
+    (skip token.closes (b == 40) _ _ (λ f. cc)
+    (pass token.closes (b == 41) _ _ (eqb_differs b 41 other)
+    (skip token.closes (b == 124) _ _ (λ f. cc)
+    (skip token.closes (b == 94) _ _ (λ f. cc)
+    (skip token.closes (b == 36) _ _ (λ f. cc)
+    (skip token.closes (b == 42) _ _ (λ f. cc)
+    (skip token.closes (b == 43) _ _ (λ f. cc)
+    (skip token.closes (b == 63) _ _ (λ f. cc)
+    (skip token.closes (b == 91 || (b == 92 || (b == 123 && digit_ahead text))) _ _ (λ f. cc) (λ f. cc)))))))))) e
 
 pub times_tokens : {case : Case} → (to : List ℕ) (ts : List Token) → NoDuplication case to → Tokens case to ts → NoTimes ts
 times_tokens to [] h a = tt
@@ -229,6 +175,11 @@ no_end_tokens depth (b ∷ text) (token.opens ∷ ts) h a k = k
 no_end_tokens depth (b ∷ text) (token.at_start ∷ ts) h a k = k
 no_end_tokens depth (b ∷ text) (token.at_end ∷ ts) h a k = k
 no_end_tokens depth (b ∷ text) (token.times l g ∷ ts) h a k = k
+
+-- the token that was read, by what it is
+pub spelled_as : {case : Case} {from to : List ℕ} {read known : ReadToken} → read ≡ known → SpellsToken case from to (meaning read)
+    → SpellsToken case from to (meaning known)
+spelled_as {case} {from} {to} is s = subst (λ t. SpellsToken case from to (meaning t)) is s
 
 -- If no token is at the front, or a later part has no tokens, the text has no tokens.
 pub lexing_fails : {case : Case} → (from : List ℕ) (b : ℕ) (behind : List ℕ) → from ≡ b ∷ behind
@@ -283,12 +234,6 @@ branch_step depth from at to members after part so_far next build = record {
       (read.0, read.1, left.0, left.1);
 }
 
-pub branch_end : {case : Case} → (depth : ℕ) (from to : List ℕ) (members : Option Members) (part : Option Part)
-    → BranchSoFar case depth from to members → IsTrue (ends_branch depth to)
-    → ((trees : Trees) → AreBuilt members trees → IsBuilt part (branch_of trees)) → ReadsBranch case depth from to part
-branch_end depth from to members part so_far ends build =
-    record { pieces = so_far.pieces; built = build so_far.pieces so_far.built; reads = so_far.reads; ends = ends }
-
 pub branch_fails : {case : Case} → (depth : ℕ) (from at : List ℕ) (members : Option Members) → BranchSoFar case depth from at members
     → IsFalse (ends_branch depth at) → NoPiece case depth at → NoBranch case depth from
 branch_fails {case} depth from at members so_far open_end never all rest others a b e =
@@ -331,23 +276,6 @@ alternatives_step depth from at behind to members after part so_far e next build
       (λ all between rest is b. (between, is, b)) (Reads-token at behind token.bar (bar_spelled at behind e)) next.reads);
   ends = next.ends;
 }
-
-pub alternatives_done : {case : Case} → (depth : ℕ) (from to : List ℕ) (members : Option Members) (part : Option Part)
-    → AlternativesSoFar case depth from to members → IsFalse (begins_with 124 to)
-    → ((trees : Trees) → AreBuilt members trees → IsBuilt part (alternatives_of trees)) → ReadsAlternatives case depth from to part
-alternatives_done depth from to members part so_far no_bar_here build =
-    record {
-      branches = so_far.branches;
-      built = build so_far.branches so_far.built;
-      reads = so_far.reads;
-      ends = so_far.ends;
-      no_bar = no_bar_here;
-    }
-
-pub first_branch_fails : {case : Case} → (depth : ℕ) (from : List ℕ) → NoBranch case depth from → NoAlternatives case depth from
-first_branch_fails depth from never all rest branches a w e =
-    let begins = alternatives_begin greatest_open w e in
-    never all begins.0 begins.1 a begins.2 begins.3
 
 pub next_branch_fails : {case : Case} → (depth : ℕ) (from at behind : List ℕ) (members : Option Members)
     → AlternativesSoFar case depth from at members → at ≡ 124 ∷ behind → NoBranch case depth behind → NoAlternatives case depth from
@@ -460,11 +388,11 @@ unclosed_fails depth from start part s read all rest tree a atom =
 
 pub closing : (depth : ℕ) (to behind : List ℕ) (b : ℕ) → to ≡ b ∷ behind → IsTrue (ends_branch (suc depth) to) → IsFalse (begins_with 124 to) → to ≡ 41 ∷ behind
 closing depth to behind b e ends no_bar_here =
-    go (or_true (b == 124) (nat_lt 0 (suc depth) && b == 41) (subst (λ v. IsTrue (ends_branch (suc depth) v)) e ends))
+    go (or_cases (b == 124) (nat_lt 0 (suc depth) && b == 41) (subst (λ v. IsTrue (ends_branch (suc depth) v)) e ends))
   where
     go : ((b == 124) ≡ true) ⊎ ((nat_lt 0 (suc depth) && b == 41) ≡ true) → to ≡ 41 ∷ behind
     go (inl bar) = absurd (let f : IsFalse (b == 124) = subst (λ v. IsFalse (begins_with 124 v)) e no_bar_here in cc)
-    go (inr close) = e ∙ ap (λ v. v ∷ behind) (eqb_is b 41 (and_true (nat_lt 0 (suc depth)) (b == 41) close).1)
+    go (inr close) = e ∙ ap (λ v. v ∷ behind) (eqb-true b 41 (and_parts (nat_lt 0 (suc depth)) (b == 41) close).1)
 
 pub group_reads : {case : Case} → (depth : ℕ) (from start to behind : List ℕ) (part : Option Part) → SpellsToken case from start token.opens
     → depth < greatest_open → ReadsAlternatives case (suc depth) start to part → to ≡ 41 ∷ behind → ReadsAtom case depth from behind part

@@ -1,9 +1,10 @@
 -- Sets made from a test, and 256 truth values as such a set.
 use Rattle.std.proofs.Common.{◌≡◌, ℕ, ◌+◌, ◌<◌, ◌≤◌, Bool, true, false, not, ◌&&◌, ◌||◌, ◌==◌, nat_lt, IsTrue, List, length, get_or, set}
 use Rattle.std.proofs.Common.{refl, sym, ◌∙◌, arith, ap, map}
-use Rattle.std.proofs.lemmas.List.FromFn.{get_or-map-range_with_len, length-map-range_with_len, fill_by_all}
+use Rattle.std.proofs.lemmas.List.FromFn.{get_or-map-range_with_len, fill_by_all}
 use Rattle.std.specs.List.{range_with_len}
 use Rattle.std.proofs.lemmas.Bool.Decides.{nat_tests}
+use Rattle.std.proofs.Math.Bool.{and-false}
 use mathlib.Core.Path.{fun_ext}
 use Rattle.ere.specs.ByteSet.{is_line_byte, has, set_of, empty_set, all_line_bytes, single, with_byte, complement}
 
@@ -11,10 +12,6 @@ use Rattle.ere.specs.ByteSet.{is_line_byte, has, set_of, empty_set, all_line_byt
 pub record IsByteSet (set : List Bool) : Type 0 where
   pub whole : length set ≡ 256
   pub line_bytes : (b : ℕ) → b < 256 → IsTrue (get_or set b false) → IsTrue (is_line_byte b)
-
-pub length-set_of : (test : ℕ → Bool) → length (set_of test) ≡ 256
-unfolding set_of
-length-set_of test = length-map-range_with_len (λ b. is_line_byte b && test b) 0 256
 
 pub get_or-set_of : (test : ℕ → Bool) (b : ℕ) → b < 256 → get_or (set_of test) b false ≡ (is_line_byte b && test b)
 unfolding set_of
@@ -30,19 +27,9 @@ and_twice : (a b : Bool) → (a && (a && b)) ≡ (a && b)
 and_twice true b = refl
 and_twice false b = refl
 
-pub and_falls : (a : Bool) → (a && false) ≡ false
-and_falls true = refl
-and_falls false = refl
-
 pub left_of : (a b : Bool) → IsTrue (a && b) → IsTrue a
 left_of true b h = refl
 left_of false b h = h
-
-pub IsByteSet-set_of : (test : ℕ → Bool) → IsByteSet (set_of test)
-IsByteSet-set_of test = record {
-  whole = length-set_of test;
-  line_bytes = λ b below holds. left_of (is_line_byte b) (test b) (rw (get_or-set_of test b below) at holds);
-}
 
 -- whether a byte is in a set made from a test
 pub has-set_of : (test : ℕ → Bool) (b : ℕ) → has (set_of test) b ≡ (is_line_byte b && test b)
@@ -127,7 +114,7 @@ of_all passes set i all so_far = so_far ∙ set_of-ext (λ b. nat_lt b i && pass
 pub single_in : (byte : ℕ) → with_byte empty_set byte ≡ single byte
 single_in byte =
     set_of-ext (λ b. has empty_set b || b == byte) (λ b. b == byte)
-    (λ b. ap (λ t. is_line_byte b && (t || b == byte)) (has-set_of (λ _. false) b ∙ and_falls (is_line_byte b)))
+    (λ b. ap (λ t. is_line_byte b && (t || b == byte)) (has-set_of (λ _. false) b ∙ and-false (is_line_byte b)))
 
 pub single_out : (byte : ℕ) → is_line_byte byte ≡ false → empty_set ≡ single byte
 single_out byte none = set_of-ext (λ _. false) (λ b. b == byte) (λ b. go b (b == byte) refl)
@@ -136,8 +123,8 @@ single_out byte none = set_of-ext (λ _. false) (λ b. b == byte) (λ b. go b (b
     go b true e =
         let same : byte ≡ b = grind (arith, nat_tests) in
         let out : is_line_byte b ≡ false = ap is_line_byte (sym same) ∙ none in
-        and_falls (is_line_byte b) ∙ sym (ap (λ t. t && (b == byte)) out)
+        and-false (is_line_byte b) ∙ sym (ap (λ t. t && (b == byte)) out)
     go b false e = ap (λ t. is_line_byte b && t) (sym e)
 
 pub all_in : complement empty_set ≡ all_line_bytes
-all_in = set_of-ext (λ b. not (has empty_set b)) (λ _. true) (λ b. ap (λ t. is_line_byte b && not t) (has-set_of (λ _. false) b ∙ and_falls (is_line_byte b)))
+all_in = set_of-ext (λ b. not (has empty_set b)) (λ _. true) (λ b. ap (λ t. is_line_byte b && not t) (has-set_of (λ _. false) b ∙ and-false (is_line_byte b)))

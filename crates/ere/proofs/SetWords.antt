@@ -9,13 +9,14 @@ use Rattle.std.proofs.lemmas.List.FromFn.{length-map-range_with_len, map-range_w
 use Rattle.std.proofs.lemmas.List.Sums.{count_by-le-length, sum_by-append}
 use Rattle.std.proofs.lemmas.Bool.Decides.{nat_tests}
 use Rattle.std.proofs.lemmas.Simd.{ones-mask_l_cons}
+use Rattle.std.proofs.Math.Bool.{and-false}
 use lib.Count.{ones}
 use Rattle.ere.specs.Bits.{has_bit}
 use Rattle.ere.specs.ByteSet.{is_line_byte, has, set_of, empty_set, size_of}
 use Rattle.ere.specs.Private.SetWords.{has_byte, values_of, AreLineBytes}
 use Rattle.ere.specs.Private.SetInverse.{byte_in, get_or-values_of, word_from}
 use Rattle.ere.proofs.Bits.{has_zero}
-use Rattle.ere.proofs.SetLemmas.{IsByteSet, left_of, and_falls, set_of_all, get_or-has}
+use Rattle.ere.proofs.SetLemmas.{IsByteSet, left_of, set_of_all, get_or-has}
 
 -- Byte b is bit b mod 64 of word b / 64.
 pub byte_is : (words : List ℕ) (b : ℕ) → has_byte words b ≡ has_bit (get_or words (b / 64) 0) (b % 64)
@@ -92,14 +93,6 @@ zeros zero i = refl
 zeros (suc n) zero = refl
 zeros (suc n) (suc i) = zeros n i
 
-pub or_none : (t : Bool) → (t || false) ≡ t
-or_none true = refl
-or_none false = refl
-
-pub and_all : (t : Bool) → (t && true) ≡ t
-and_all true = refl
-and_all false = refl
-
 pub no_bytes : (b : ℕ) → has_byte (replicate 4 0) b ≡ false
 no_bytes b = byte_is (replicate 4 0) b ∙ ap (λ n. has_bit n (b % 64)) (zeros 4 (b / 64)) ∙ has_zero (b % 64)
 
@@ -137,10 +130,10 @@ are_line_bytes words test whole small each = record {
 pub AreLineBytes-none : AreLineBytes (replicate 4 0)
 AreLineBytes-none =
     are_line_bytes (replicate 4 0) (λ _. false) refl (λ i. let none = zeros 4 i in omega arith)
-    (λ b below. no_bytes b ∙ sym (and_falls (is_line_byte b)))
+    (λ b below. no_bytes b ∙ sym (and-false (is_line_byte b)))
 
 pub values_of_none : values_of (replicate 4 0) ≡ empty_set
-values_of_none = values_all (replicate 4 0) (λ _. false) (λ b below. no_bytes b ∙ sym (and_falls (is_line_byte b)))
+values_of_none = values_all (replicate 4 0) (λ _. false) (λ b below. no_bytes b ∙ sym (and-false (is_line_byte b)))
 
 either_lines : (l x y : Bool) → x ≡ (l && x) → y ≡ (l && y) → (x || y) ≡ (l && (x || y))
 either_lines true x y p q = refl

@@ -62,10 +62,6 @@ pub highest-more : (tree : Tree) (trees : Trees) → highest (more tree trees) �
 unfolding highest
 highest-more tree trees = refl
 
-pub highest-none : highest none ≡ 0
-unfolding highest
-highest-none = refl
-
 pub leaves-Empty : (e : Ere) → e ≡ Empty → leaves (form e) ≡ 1
 unfolding leaves
 leaves-Empty e h = rw (h, form-Empty) refl

@@ -1,7 +1,7 @@
 -- Texts from an offset on.
-use Rattle.std.proofs.Common.{◌≡◌, ℕ, ◌+◌, ◌<◌, ◌==◌, IsTrue, List, [], ◌∷◌, length, get_or, drop, refl, sym, ap, ◌∙◌, subst, arith}
+use Rattle.std.proofs.Common.{◌≡◌, ℕ, ◌+◌, ◌<◌, IsTrue, List, [], ◌∷◌, length, get_or, drop, refl, sym, ap, ◌∙◌, subst, arith}
 use Rattle.std.proofs.lemmas.List.{drop_more, get_or-drop, drop_all}
-use Rattle.std.proofs.lemmas.Bool.Decides.{nat_tests}
+use Rattle.std.proofs.lemmas.Bool.{eqb-true, eq-eqb}
 use native.Mathlib.Decide.{dec_lt}
 use Rattle.ere.specs.Brackets.{begins_with}
 
@@ -18,17 +18,11 @@ pub record Stands (text : List ℕ) (at byte : ℕ) : Type 0 where
 pub Stands-read : (text : List ℕ) (at byte : ℕ) → at < length text → get_or text at 0 ≡ byte → Stands text at byte
 Stands-read text at byte inside e = record { inside = inside; is = e; from = front text at inside ∙ ap (λ b. b ∷ drop (at + 1) text) e }
 
-pub eqb_is : (a b : ℕ) → IsTrue (a == b) → a ≡ b
-eqb_is a b h = grind (arith, nat_tests)
-
-is_eqb : (a b : ℕ) → a ≡ b → IsTrue (a == b)
-is_eqb a b h = grind (arith, nat_tests)
-
 pub first_is : (byte b : ℕ) (text : List ℕ) → IsTrue (begins_with byte (b ∷ text)) → b ≡ byte
-first_is byte b text h = eqb_is b byte h
+first_is byte b text h = eqb-true b byte h
 
 pub first_begins : (byte : ℕ) (text : List ℕ) → IsTrue (begins_with byte (byte ∷ text))
-first_begins byte text = is_eqb byte byte refl
+first_begins byte text = eq-eqb byte byte refl
 
 pub begins_inside : (text : List ℕ) (at byte : ℕ) → IsTrue (begins_with byte (drop at text)) → at < length text
 begins_inside text at byte h = go (dec_lt at (length text))

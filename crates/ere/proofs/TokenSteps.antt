@@ -3,7 +3,7 @@ use Rattle.std.proofs.Common.{◌≡◌, ◌≢◌, ℕ, ◌+◌, ◌-◌, ◌*�
 use Rattle.std.proofs.Common.{[], ◌∷◌, ◌++◌, length, get_or, drop, Option, Some, None, MatchOption, refl, sym, ap, ◌∙◌, subst, arith}
 use Rattle.std.proofs.Common.{append_assoc, length-append, inl, inr, ◌⊎◌}
 use Rattle.std.specs.List.{AllPass, list_any}
-use Rattle.std.proofs.lemmas.List.Elements.{All-push, All-nil}
+use Rattle.std.proofs.lemmas.List.Elements.{All-push}
 use Rattle.std.proofs.lemmas.List.Sums.{fold-append}
 use Rattle.std.proofs.lemmas.List.{drop_all}
 use native.Mathlib.Decide.{dec_lt}
@@ -18,7 +18,7 @@ use Rattle.ere.specs.Private.Reading.{begins_longer, NoDuplication, ReadsCount}
 use Rattle.ere.proofs.BracketLemmas.{head_of}
 use Rattle.ere.proofs.BracketSteps.{eqb_differs}
 use Rattle.ere.proofs.Texts.{first_begins, front}
-use Rattle.ere.proofs.TokenLemmas.{tail_of, at_byte, no_bracket_byte, no_escape_byte, no_brace_byte, no_token, one_token, IntervalView}
+use Rattle.ere.proofs.TokenLemmas.{tail_of, at_byte, no_bracket_byte, no_escape_byte, no_brace_byte, one_token, IntervalView}
 use Rattle.ere.proofs.TokenLemmas.{IntervalView as view, interval_view, one_run, all_digits, one_count}
 
 -- No token is at the front.
@@ -47,10 +47,6 @@ interval_fails from tail e digit none rest t (spelled.bracket items m f h is) = 
 interval_fails from tail e digit none rest t (spelled.interval counts l g f d h is) =
     none rest l g (subst (λ v. SpellsInterval v rest l g) (tail_of (sym f ∙ e)) h)
 
-chosen : (b : Bool) (x y z : Option Token) → cond b x y ≡ z → ((b ≡ true) × (x ≡ z)) ⊎ ((b ≡ false) × (y ≡ z))
-chosen true x y z e = inl (refl, e)
-chosen false x y z e = inr (refl, e)
-
 -- Only `*`, `+` and `?` are duplications of one byte.
 times_byte : (case : Case) → (b : ℕ) (text : List ℕ) (l : ℕ) (g : Option ℕ) → token_of_byte case b text ≡ Some (times l g) → b ≢ 42 → b ≢ 43 → b ≢ 63 → ⊥
 unfolding token_of_byte
@@ -75,9 +71,6 @@ no_duplication from b rest e star plus question brace r l g (spelled.byte c f h)
 no_duplication from b rest e star plus question brace r l g (spelled.escaped c f h is) = absurd (cc)
 no_duplication from b rest e star plus question brace r l g (spelled.bracket items m f h is) = absurd (cc)
 no_duplication from b rest e star plus question brace r l g (spelled.interval counts m k f d h is) = brace (head_of (sym e ∙ f))
-
-pub no_duplication_end : {case : Case} → NoDuplication case []
-no_duplication_end r l g h = no_token r (times l g) h
 
 -- A text that begins with another token begins with no duplication.
 pub no_duplication_other : {case : Case} → (from q : List ℕ) (t : Token) → SpellsToken case from q t
@@ -109,9 +102,6 @@ pub record CountedTo (from rest : List ℕ) (value count : ℕ) : Type 0 where
   pub value_is : value ≡ min (decimal_value digits) 256
   pub long : length digits ≡ count
 
-pub counted_none : (from : List ℕ) → CountedTo from from 0 0
-counted_none from = record { digits = []; is_front = refl; decimal = All-nil (λ b. is_digit b ≡ true); value_is = refl; long = refl }
-
 pub counted_more : (from rest : List ℕ) (b value count : ℕ) → CountedTo from (b ∷ rest) value count → is_digit b ≡ true
     → CountedTo from rest (min (value * 10 + (b - 48)) 256) (count + 1)
 counted_more from rest b value count r digit = record {
@@ -124,30 +114,6 @@ counted_more from rest b value count r digit = record {
       let so_far = r.value_is in omega (arith, all, so_far);
   long = length-append r.digits (b ∷ []) ∙ omega (arith, r.long);
 }
-
-pub counted_all : (from rest : List ℕ) (value count : ℕ) → CountedTo from rest value count → IsFalse (digit_ahead rest) → 0 < count
-    → value ≤ 255 → ReadsCount from rest (Some value)
-counted_all from rest value count r ends some within = record {
-  digits = r.digits;
-  is_front = r.is_front;
-  decimal = r.decimal;
-  ends = ends;
-  counted = record { some = omega (arith, r.long); decimal = r.decimal; value = omega (arith, r.value_is); within = within };
-}
-
-pub counted_no : (from rest : List ℕ) (value count : ℕ) → CountedTo from rest value count → IsFalse (digit_ahead rest)
-    → (count ≡ 0) ⊎ (255 < value) → ReadsCount from rest None
-counted_no from rest value count r ends why = record {
-  digits = r.digits;
-  is_front = r.is_front;
-  decimal = r.decimal;
-  ends = ends;
-  counted = λ n c. not_both n c why;
-}
-  where
-    not_both : (n : ℕ) → SpellsCount r.digits n → (count ≡ 0) ⊎ (255 < value) → ⊥
-    not_both n c (inl none) = omega (arith, c.some, r.long)
-    not_both n c (inr above) = omega (arith, c.value, c.within, r.value_is)
 
 -- the interval's first count, and what follows its digits
 pub low_view : (from tail : List ℕ) (count : Option ℕ) (r : ReadsCount from tail count) (rest : List ℕ) (l : ℕ) (g : Option ℕ)

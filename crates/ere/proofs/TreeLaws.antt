@@ -16,7 +16,7 @@ use Rattle.ere.specs.Tokens.{Tokens as tokens, SpellsToken as spelled, SpellsInt
 use Rattle.ere.specs.Spelling.{Spells, SpellsDuplications, SpellsAtom, SpellsPiece, SpellsBranch, SpellsAlternatives, branch_of, alternatives_of}
 use Rattle.ere.specs.Spelling.{SpellsDuplications as duplications, SpellsAtom as atoms, SpellsPiece as pieces_are}
 use Rattle.ere.specs.Spelling.{SpellsBranch as branches_are, SpellsAlternatives as alternatives_are}
-use Rattle.ere.specs.Private.Reading.{ReadsAlternatives, NoAlternatives, ends_branch}
+use Rattle.ere.specs.Private.Reading.{ReadsAlternatives, ends_branch}
 use Rattle.ere.proofs.TokenLemmas.{one_tokens}
 use Rattle.ere.proofs.GrammarLemmas.{one_alternatives}
 
@@ -188,9 +188,6 @@ large_no_tree pattern to part r large tree t =
     let same = one_tree _ greatest_open greatest_open pattern _ _ (whole_tree pattern to (Some part) r) t.spelled in
     let small : leaves (form part.tree) ≤ greatest_leaves = rw (r.built.0 ∙ same) t.small in
     omega (arith, large, small)
-
-pub fault_no_tree : {case : Case} → (pattern : List ℕ) → NoAlternatives case 0 pattern → HasNoTree case pattern
-fault_no_tree pattern never tree t = never t.spelled.tokens [] t.spelled.branches t.spelled.are_tokens t.spelled.spelled tt
 
 pub found_tree : {case : Case} → (pattern to : List ℕ) (part : Part) (r : ReadsAlternatives case 0 pattern to (Some part))
     → length pattern ≤ greatest_pattern → AllByRecursion (λ b. (b ≢ 0) × (b ≢ 10)) pattern → leaves (form part.tree) ≤ greatest_leaves

@@ -8,6 +8,7 @@ use Rattle.std.proofs.lemmas.Bool.{false≢true}
 use Rattle.std.proofs.lemmas.List.Elements.{All-map}
 use Rattle.index.specs.declared.command.Command.{Command}
 use Rattle.index.specs.Documents.{Document, document, name_of, names, number_of, is_taken}
+pub use Rattle.query.proofs.OrderLemmas.{Contains-filter, Contains-from_filter as filter-Contains}
 
 pub same_name : (x y : List ℕ) → bytes_eq x y ≡ true → x ≡ y
 same_name x y e = (bytes_decides x y).0 e
@@ -61,29 +62,6 @@ map-Contains f (x ∷ xs) y h =
       | inl is ↦ (x, Contains-head x xs, is)
       | inr rest ↦ (let at = map-Contains f xs y rest in (at.0, Contains-tail x xs at.0 at.1, at.2))
     ]
-
-pub filter-Contains : {X : Type 0} (p : X → Bool) (xs : List X) (d : X) → Contains (filter p xs) d → Contains xs d × (p d ≡ true)
-filter-Contains p [] d h = absurd (omega (arith, h.1))
-filter-Contains p (x ∷ xs) d h = go (p x) refl (filter-Contains p xs d) h
-  where
-    go : (t : Bool) → p x ≡ t → (Contains (filter p xs) d → Contains xs d × (p d ≡ true))
-        → Contains (cond t (x ∷ filter p xs) (filter p xs)) d → Contains (x ∷ xs) d × (p d ≡ true)
-    go true e deeper h =
-        elim (Contains-cons x (filter p xs) d h) [
-          | inl is ↦ (subst (λ y. Contains (x ∷ xs) y) is (Contains-head x xs), subst (λ y. p y ≡ true) is e)
-          | inr rest ↦ (let at = deeper rest in (Contains-tail x xs d at.0, at.1))
-        ]
-    go false e deeper h = let at = deeper h in (Contains-tail x xs d at.0, at.1)
-
-pub Contains-filter : {X : Type 0} (p : X → Bool) (xs : List X) (d : X) → Contains xs d → p d ≡ true → Contains (filter p xs) d
-Contains-filter p [] d h passes = absurd (omega (arith, h.1))
-Contains-filter p (x ∷ xs) d h passes = go (p x) refl (Contains-cons x xs d h) (λ there. Contains-filter p xs d there passes)
-  where
-    go : (t : Bool) → p x ≡ t → (x ≡ d) ⊎ Contains xs d → (Contains xs d → Contains (filter p xs) d) → Contains (cond t (x ∷ filter p xs) (filter p xs)) d
-    go true e (inl is) deeper = subst (λ y. Contains (x ∷ filter p xs) y) is (Contains-head x (filter p xs))
-    go true e (inr rest) deeper = Contains-tail x (filter p xs) d (deeper rest)
-    go false e (inl is) deeper = absurd (false≢true (sym e ∙ (ap p is ∙ passes)))
-    go false e (inr rest) deeper = deeper rest
 
 -- ---- documents by their names
 
@@ -146,15 +124,6 @@ module _ (chosen : Document → Bool) (body : List ℕ) where
           → (cond t (document d.number d.name body) d).number ∷ map (λ x. x.number) (map (replaced chosen body) ds) ≡ d.number ∷ map (λ x. x.number) ds
       go true e = ap (λ xs. d.number ∷ xs) e
       go false e = ap (λ xs. d.number ∷ xs) e
-
-  pub names-replaced : (ds : List Document) → map (λ d. d.name) (map (replaced chosen body) ds) ≡ map (λ d. d.name) ds
-  names-replaced [] = refl
-  names-replaced (d ∷ ds) = go (chosen d) (names-replaced ds)
-    where
-      go : (t : Bool) → map (λ x. x.name) (map (replaced chosen body) ds) ≡ map (λ x. x.name) ds
-          → (cond t (document d.number d.name body) d).name ∷ map (λ x. x.name) (map (replaced chosen body) ds) ≡ d.name ∷ map (λ x. x.name) ds
-      go true e = ap (λ xs. d.name ∷ xs) e
-      go false e = ap (λ xs. d.name ∷ xs) e
 
   pub number_of-replaced : (name : List ℕ) (ds : List Document) → number_of name (map (replaced chosen body) ds) ≡ number_of name ds
   unfolding number_of

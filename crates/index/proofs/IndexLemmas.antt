@@ -1,5 +1,5 @@
 -- What an index keeps, from one command to the next.
-use Rattle.std.proofs.Common.{◌≡◌, ℕ, ◌+◌, ◌^◌, ◌<◌, ◌==◌, Bool, true, false, cond, List, [], ◌∷◌, ◌++◌, map, length, Option, Some, None, refl, sym, ◌∙◌, ap}
+use Rattle.std.proofs.Common.{◌≡◌, ℕ, ◌+◌, ◌^◌, ◌<◌, ◌==◌, cond, List, [], ◌∷◌, ◌++◌, map, length, Option, Some, None, sym, ◌∙◌, ap}
 use Rattle.std.proofs.Common.{subst, arith}
 use Rattle.std.specs.Prelude.{bytes_eq, is_some}
 use Rattle.std.specs.Ordering.{nat_cmp}
@@ -14,7 +14,7 @@ use Rattle.index.specs.Documents.{Document, document, number_of, without, with_b
 use Rattle.index.specs.State.{State, state, applied, body_bytes, IsGoodDocument, IsState}
 use Rattle.index.specs.Private.Slots.{without_number, with_body_at}
 use Rattle.index.specs.Private.Store.{stored, IsStore, IsIndex}
-use Rattle.index.proofs.DocumentLemmas.{same_name, number_of-replaced}
+use Rattle.index.proofs.DocumentLemmas.{number_of-replaced}
 use Rattle.index.proofs.StoredLemmas.{Numbered, Numbered-rise}
 use Rattle.index.proofs.OrderLemmas.{Named, Named-pairs}
 use Rattle.index.proofs.ApplyLemmas.{without-numbered, without-none, with_body-numbered, number_of-put, number_of-without, IsState-new}
@@ -52,25 +52,6 @@ IsIndex-unchanged version old new store is same = record {
   number = λ name. ap (lookup (is_at (slice_cmp nat_cmp name))) same ∙ is.number name;
   few = is.few;
 }
-
--- undoing the entry of a name
-pub IsIndex-back : (version number : ℕ) (old entered new : BTreeMap (List ℕ) ℕ) (store : Store) (name : List ℕ)
-    → IsIndex version old store → number_of name (stored store) ≡ None
-    → ((q : List ℕ) → get (slice_cmp nat_cmp) entered q ≡ cond (bytes_eq name q) (Some number) (get (slice_cmp nat_cmp) old q))
-    → ((q : List ℕ) → get (slice_cmp nat_cmp) new q ≡ cond (bytes_eq name q) None (get (slice_cmp nat_cmp) entered q))
-    → IsIndex version new store
-IsIndex-back version number old entered new store name is none there back = record {
-  kept = is.kept;
-  is_state = is.is_state;
-  number = λ q. back q ∙ (go q (bytes_eq name q) refl (there q) ∙ is.number q);
-  few = is.few;
-}
-  where
-    go : (q : List ℕ) (t : Bool) → bytes_eq name q ≡ t
-        → get (slice_cmp nat_cmp) entered q ≡ cond (bytes_eq name q) (Some number) (get (slice_cmp nat_cmp) old q)
-        → cond (bytes_eq name q) None (get (slice_cmp nat_cmp) entered q) ≡ get (slice_cmp nat_cmp) old q
-    go q true e h = rw e (sym none ∙ (sym (is.number name) ∙ ap (get (slice_cmp nat_cmp) old) (same_name name q e)))
-    go q false e h = rw e (rw e at h)
 
 -- ---- one more command
 

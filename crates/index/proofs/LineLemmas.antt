@@ -4,6 +4,8 @@ use Rattle.std.proofs.Common.{take, drop, get_or, Option, Some, None, refl, sym,
 use Rattle.std.specs.List.{list_any}
 use Rattle.std.proofs.lemmas.Bool.Decides.{nat_tests}
 use Rattle.std.proofs.lemmas.List.{length-take, length-drop, take_all, get_or-take}
+use Rattle.std.proofs.Math.Bool.{or-false, or-true}
+use Rattle.std.proofs.lemmas.Bool.{false_from_ne_true}
 use Rattle.index.specs.Text.{has_byte_0, has_long_line}
 use Rattle.lines.specs.Lines.{lines_of, with_byte_in_front}
 use Rattle.memchr.specs.Find.{IsFirstByte, is_byte, Nowhere, NoneAfter, Passes}
@@ -16,38 +18,26 @@ abbrev pub long_with : ℕ → List (List ℕ) → Bool
 long_with n [] = nat_lt 16384 n
 long_with n (line ∷ lines) = nat_lt 16384 (n + length line) || some_long lines
 
-is_false : (t : Bool) → (t ≡ true → ⊥) → t ≡ false
-is_false true h = absurd (h refl)
-is_false false h = refl
-
-or_true : (a : Bool) → (a || true) ≡ true
-or_true true = refl
-or_true false = refl
-
 no_zero : (text : List ℕ) → ((k : ℕ) → k < length text → (get_or text k 0 == 0) ≡ true → ⊥) → has_byte_0 text ≡ false
 no_zero [] none = refl
-no_zero (b ∷ text) none = rw (is_false (b == 0) (none 0 (omega arith)), no_zero text (λ k h. none (suc k) (omega arith))) refl
+no_zero (b ∷ text) none = rw (false_from_ne_true (b == 0) (none 0 (omega arith)), no_zero text (λ k h. none (suc k) (omega arith))) refl
 
 some_zero : (text : List ℕ) (place : ℕ) → place < length text → (get_or text place 0 == 0) ≡ true → has_byte_0 text ≡ true
 some_zero [] place below found = absurd (omega arith)
 some_zero (b ∷ text) zero below found = rw found refl
-some_zero (b ∷ text) (suc place) below found = rw (some_zero text place (omega arith) found) (or_true (b == 0))
+some_zero (b ∷ text) (suc place) below found = rw (some_zero text place (omega arith) found) (or-true (b == 0))
 
 -- whether a list has a byte 0, by the first one
 pub has_byte_0-memchr : (text : List ℕ) (found : Option ℕ) → IsFirstByte (is_byte 0) text found → is_some found ≡ has_byte_0 text
 has_byte_0-memchr text None none = sym (no_zero text (λ k below. none k (omega arith) below))
 has_byte_0-memchr text (Some place) first = sym (some_zero text place first.0.high first.1)
 
-or_none : (a : Bool) → (a || false) ≡ a
-or_none true = refl
-or_none false = refl
-
 long_with-none : (lines : List (List ℕ)) → some_long lines ≡ long_with 0 lines
 long_with-none [] = refl
 long_with-none (line ∷ lines) = ap (λ n. nat_lt 16384 n || some_long lines) (sym (zero-add (length line)))
 
 long_with-byte : (b n : ℕ) (lines : List (List ℕ)) → long_with n (with_byte_in_front b lines) ≡ long_with (suc n) lines
-long_with-byte b n [] = or_none (nat_lt 16384 (n + 1)) ∙ ap (nat_lt 16384) (add-one n)
+long_with-byte b n [] = or-false (nat_lt 16384 (n + 1)) ∙ ap (nat_lt 16384) (add-one n)
 long_with-byte b n (line ∷ lines) =
     let one : n + suc (length line) ≡ suc n + length line = omega arith in
     ap (λ n. nat_lt 16384 n || some_long lines) one
@@ -87,7 +77,7 @@ none_within zero n text inside long none = already (lines_of text)
     already (line ∷ lines) = let first : nat_lt 16384 (n + length line) ≡ true = grind (arith, nat_tests) in rw first refl
 none_within (suc count) n [] inside long none = absurd (omega arith)
 none_within (suc count) n (b ∷ text) inside long none =
-    long_with-other b n text (is_false (b == 10) (none 0 (omega arith)))
+    long_with-other b n text (false_from_ne_true (b == 10) (none 0 (omega arith)))
     ∙ none_within count (suc n) text (omega arith) (omega arith) (λ k below. none (suc k) (omega arith))
 
 -- a short text has no long line

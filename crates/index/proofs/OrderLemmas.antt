@@ -20,6 +20,8 @@ use Rattle.std.specs.declared.ops.Bound.{Bound}
 use Rattle.std.specs.declared.ops.Bound.TheVariants.{Unbounded}
 use Rattle.std.proofs.lemmas.Map.Entries.{place_from_lookup, btree_map_get_place}
 use Rattle.std.proofs.lemmas.Option.{slice_get_within, get_or_from_slice_get, some_pair_parts}
+use Rattle.std.specs.Cmp.{both_ways}
+use Rattle.std.proofs.Math.Bool.{or-true}
 use Rattle.index.specs.declared.sets.Sets.{Sets}
 use Rattle.index.specs.Documents.{Document, document, document_at, number_of, meets, is_chosen, is_under, IsInNameOrder, RisesByName}
 use Rattle.index.specs.Text.{IsName, begins_with}
@@ -28,7 +30,7 @@ use Rattle.index.specs.Private.Sets.{AreSetsOf, trigrams_shown}
 use Rattle.index.specs.Private.Chosen.{numbered_document, document_numbered, documents_numbered, IsFirstUnder}
 use Rattle.index.proofs.DocumentLemmas.{same_name, bytes_eq-refl, Contains-cons, Contains-head, Contains-tail, Contains-number_of}
 use Rattle.index.proofs.DocumentLemmas.{filter-Contains, Contains-filter, filter_same}
-use Rattle.index.proofs.StoredLemmas.{Numbered, same_bool}
+use Rattle.index.proofs.StoredLemmas.{Numbered}
 
 -- ---- each name once
 
@@ -77,7 +79,7 @@ number_of-Contains (x ∷ ds) named d h = go (bytes_eq x.name d.name) refl (Cont
 -- A document has the name exactly if it has the number that is found under the name.
 pub name-number : (ds : List Document) → Numbered ds → Named ds → (name : List ℕ) (number : ℕ) → number_of name ds ≡ Some number
     → (d : Document) → Contains ds d → bytes_eq d.name name ≡ (d.number == number)
-name-number ds numbered named name number found d there = same_bool (bytes_eq d.name name) (d.number == number) forth back
+name-number ds numbered named name number found d there = both_ways (bytes_eq d.name name) (d.number == number) forth back
   where
     forth : bytes_eq d.name name ≡ true → (d.number == number) ≡ true
     forth e =
@@ -276,10 +278,6 @@ none_in_order numbers text ds names none = subst (λ xs. IsInNameOrder xs []) (s
         ap (λ t. cond t (d ∷ filter (is_chosen numbers text) ds) (filter (is_chosen numbers text) ds)) out
         ∙ nothing ds (λ k x inside. names (suc k) x (omega arith))
 
-or_yes : (a : Bool) → (a || true) ≡ true
-or_yes true = refl
-or_yes false = refl
-
 -- ---- candidates
 
 pub candidates_are : (ds : List Document) → Numbered ds → (sets : Sets) (formula : Formula) → AreSetsOf ds sets
@@ -327,12 +325,12 @@ has_number (x ∷ ds) d h = go (Contains-cons x ds d h) (has_number ds d)
         let same : x.number ≡ d.number = ap (λ y. y.number) is in
         let here : (x.number == d.number) ≡ true = grind (arith, nat_tests) in
         rw here refl
-    go (inr rest) deeper = rw (deeper rest) (or_yes (x.number == d.number))
+    go (inr rest) deeper = rw (deeper rest) (or-true (x.number == d.number))
 
 pub chosen_are : (ds : List Document) → Numbered ds → (p : Document → Bool) → filter (λ d. has (map (λ x. x.number) (filter p ds)) d.number) ds ≡ filter p ds
 chosen_are ds numbered p =
     filter_same (λ d. has (map (λ x. x.number) (filter p ds)) d.number) p ds (λ d there.
-    same_bool (has (map (λ x. x.number) (filter p ds)) d.number) (p d) (forth d there)
+    both_ways (has (map (λ x. x.number) (filter p ds)) d.number) (p d) (forth d there)
     (λ passes. has_number (filter p ds) d (Contains-filter p ds d there passes)))
   where
     pair_or : List ℕ × List ℕ → Option (List ℕ × List ℕ) → List ℕ × List ℕ

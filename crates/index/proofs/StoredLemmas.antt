@@ -3,13 +3,14 @@ use Rattle.std.proofs.Common.{◌≡◌, ◌≢◌, ℕ, suc, ◌+◌, ◌<◌, 
 use Rattle.std.proofs.Common.{length, get_or, Option, Some, None, Contains, refl, sym, ◌∙◌, ap, subst, arith}
 use Rattle.std.specs.Prelude.{All, IsSome, filter, option_map}
 use Rattle.std.specs.List.Sorted.{IsStrictlyIncreasing}
-use Rattle.std.proofs.lemmas.Bool.{false≢true}
 use Rattle.std.proofs.lemmas.Bool.Decides.{nat_tests}
 use Rattle.std.proofs.lemmas.List.{length-map, get_or-map, get_or_default, map-append}
 use Rattle.std.proofs.lemmas.List.Elements.{All-head, All-tail, All-nil, All-cons, All-append, All-contains_itself, All-map}
 use Rattle.std.proofs.lemmas.List.Kept.{AllPairs-from_increasing, IsStrictlyIncreasing-filter}
 use Rattle.std.proofs.lemmas.Option.{some_pair_parts}
 use Rattle.std.proofs.lemmas.List.Sums.{sum-map, sum_by-cons}
+use Rattle.std.proofs.Math.Bool.{or-false, and-false, and-true}
+use Rattle.std.specs.Cmp.{both_ways}
 use Rattle.query.specs.Trigrams.{ListsTrigrams, trigrams_of_body}
 use Rattle.posting.specs.ListValue.{has, without}
 use Rattle.posting.specs.Postings.{holds, IsPrepared, AllDiffer}
@@ -28,14 +29,6 @@ use Rattle.index.specs.Private.Store.{stored, IsReadyFor}
 use Rattle.index.proofs.DocumentLemmas.{numbers-replaced}
 use Rattle.index.proofs.RisingLemmas.{below_later}
 use Rattle.index.proofs.SlotLemmas.{Rising, rising, with_body_at-absent}
-
-not_true : (b : Bool) → (b ≡ true → ⊥) → b ≡ false
-not_true true h = absurd (h refl)
-not_true false h = refl
-
-pub same_bool : (a b : Bool) → (a ≡ true → b ≡ true) → (b ≡ true → a ≡ true) → a ≡ b
-same_bool true b h g = sym (h refl)
-same_bool false b h g = sym (not_true b (λ e. false≢true (g e)))
 
 -- ---- each number is below those after it
 
@@ -148,7 +141,7 @@ document_at-kept gone number (d ∷ ds) = go (d.number == gone) refl (d.number =
 -- ---- trigrams
 
 pub listed : (body trigrams : List ℕ) → ListsTrigrams body trigrams → (t : ℕ) → has trigrams t ≡ trigrams_of_body body t
-listed body trigrams h t = same_bool (has trigrams t) (trigrams_of_body body t) forth back
+listed body trigrams h t = both_ways (has trigrams t) (trigrams_of_body body t) forth back
   where
     forth : has trigrams t ≡ true → trigrams_of_body body t ≡ true
     forth e = (h.members t).0 (All-has (Contains trigrams) trigrams t (All-contains_itself trigrams) e)
@@ -166,18 +159,6 @@ and_none : (a b : Bool) → (a && not (b && false)) ≡ a
 and_none true true = refl
 and_none true false = refl
 and_none false b = refl
-
-or_none : (a : Bool) → (a || false) ≡ a
-or_none true = refl
-or_none false = refl
-
-and_false : (a : Bool) → (a && false) ≡ false
-and_false true = refl
-and_false false = refl
-
-and_true : (a : Bool) → (a && true) ≡ a
-and_true true = refl
-and_true false = refl
 
 numbers-kept : (gone : ℕ) (ds : List Document) → map (λ d. d.number) (without_number gone ds) ≡ without gone (map (λ d. d.number) ds)
 numbers-kept gone [] = refl
@@ -236,13 +217,13 @@ AreSetsOf-put ds number name body trigrams old new kept fresh lists live sets = 
     come_in : (trigram n : ℕ) (found : Option (List ℕ × List ℕ)) (t : Bool) → (number == n) ≡ t → (number ≡ n → found ≡ None)
         → (trigrams_shown found trigram || (has trigrams trigram && number == n))
         ≡ trigrams_shown (or_else found (document_at n (document number name body ∷ []))) trigram
-    come_in trigram n None true e new_here = rw e (and_true (has trigrams trigram) ∙ listed body trigrams lists trigram)
-    come_in trigram n None false e new_here = rw e (and_false (has trigrams trigram))
+    come_in trigram n None true e new_here = rw e (and-true (has trigrams trigram) ∙ listed body trigrams lists trigram)
+    come_in trigram n None false e new_here = rw e (and-false (has trigrams trigram))
     come_in trigram n (Some d) true e new_here =
         let same : number ≡ n = grind (arith, nat_tests) in
         let clash = new_here same in
         cc
-    come_in trigram n (Some d) false e new_here = rw e (rw (and_false (has trigrams trigram)) (or_none (trigrams_of_body d.1 trigram)))
+    come_in trigram n (Some d) false e new_here = rw e (rw (and-false (has trigrams trigram)) (or-false (trigrams_of_body d.1 trigram)))
 
 -- a number above all others is new to the sets
 pub IsNew-above : (ds : List Document) (last number : ℕ) (body trigrams : List ℕ) (sets : Sets) → AreSetsOf ds sets

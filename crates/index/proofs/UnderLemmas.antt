@@ -10,7 +10,7 @@ use Rattle.std.specs.Cmp.Lexicographic.{slice_cmp}
 use Rattle.std.specs.Map.{keys_of, values_of}
 use Rattle.std.specs.BTreeMap.Range.{range_contains, is_from_start, entries_between}
 use Rattle.std.specs.declared.ops.Bound.{Bound}
-use Rattle.std.specs.declared.ops.Bound.TheVariants.{Included, Unbounded}
+use Rattle.std.specs.declared.ops.Bound.TheVariants.{Unbounded}
 use Rattle.std.specs.declared.cmp.Ordering.{Ordering}
 use Rattle.std.specs.declared.cmp.Ordering.TheVariants.{Less, Equal, Greater}
 use Rattle.std.proofs.lemmas.Bool.{false≢true}
@@ -138,9 +138,6 @@ pub first-empty : (text : List ℕ) → length text ≡ 0 → IsFirstUnder text 
 first-empty [] none [] = refl
 first-empty [] none (n ∷ name) = refl
 first-empty (t ∷ text) none name = absurd (omega arith)
-
-pub first-name : (text name : List ℕ) → name ≡ text → IsFirstUnder text (Included name)
-first-name text name is other = ap (λ x. is_le (slice_cmp nat_cmp x other)) is
 
 -- ---- the entries of names that begin with a text
 

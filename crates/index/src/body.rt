@@ -6,7 +6,7 @@ ghost use Rattle.index.specs.Text.{IsBody, IsBodyFault, has_byte_0, has_long_lin
 use crate::error::{BodyError, BodyErrorKind};
 use lines::MAX_LINE;
 use memchr::{memchr, memrchr};
-use std::alloc::Global;
+use std::alloc::{AllocError, Global};
 use std::marker::Model;
 
 /// The greatest length of a body, in bytes (this program's choice).
@@ -53,6 +53,15 @@ impl Body {
         ensures body { IsBody self.now }
     {
         self.bytes.as_slice()
+    }
+
+    /// A copy. An `Err` means that memory ran out.
+    pub(crate) fn copy(&self) -> Result<Body, AllocError>
+        ensures { IfOk result (λ body. body ≡ self.now) }
+    {
+        Ok(Body {
+            bytes: self.bytes.clone()?,
+        })
     }
 
     /// The allocator of the bytes.

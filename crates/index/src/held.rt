@@ -46,21 +46,10 @@ impl Held {
         ensures held { IfOk result (λ held. held ≡ body) }
         ensures returned { IfErr result (λ e. e.body ≡ body) }
     {
-        match trigrams_in(&body) {
-            Ok(trigrams) => Held::with(body, trigrams),
-            Err(error) => Err(HeldError { body, error }),
-        }
-    }
-
-    /// Keeps the body with these trigrams, which are those of its lines. An `Err` means that memory ran out, and
-    /// hands the body back.
-    pub(crate) fn with(body: Body, trigrams: Trigrams) -> Result<Held, HeldError>
-        requires { ListsTrigrams body trigrams }
-        ensures held { IfOk result (λ held. held ≡ body) }
-        ensures body { IsBody body }
-        ensures returned { IfErr result (λ e. e.body ≡ body) }
-    {
-        let _bytes = body.as_bytes();
+        let trigrams = match trigrams_in(&body) {
+            Ok(trigrams) => trigrams,
+            Err(error) => return Err(HeldError { body, error }),
+        };
         match Arc::new(body.allocator(), Analysed { body, trigrams }) {
             Ok(shared) => Ok(Held { shared }),
             Err(refused) => Err(HeldError {
@@ -98,7 +87,7 @@ impl Held {
 /// The trigrams of a body's lines.
 ///
 /// An `Err` means that memory ran out.
-pub(crate) fn trigrams_in(body: &Body) -> Result<Trigrams, AllocError>
+fn trigrams_in(body: &Body) -> Result<Trigrams, AllocError>
     ensures trigrams { IfOk result (λ trigrams. ListsTrigrams body.now trigrams) }
     ensures body { IsBody body.now }
 {

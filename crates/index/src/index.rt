@@ -1,7 +1,7 @@
 //! The index: the documents that commands leave, and the sets by which they are found.
 
 ghost use Rattle.std.specs.Prelude.{◌≡◌, ℕ, List, ◌+◌, ◌^◌, ◌<◌, [], ◌∷◌, ◌++◌, map, length, OnOk};
-ghost use Rattle.std.specs.Prelude.{false, OnErr, IfErr, IfOk, IfSome, IfNone, IsSome, IsOk, option_map, filter, bytes_eq, if◌then◌else◌, Some, None};
+ghost use Rattle.std.specs.Prelude.{false, OnErr, IfErr, IfOk, IfSome, IfNone, IsOk, option_map, filter, bytes_eq, if◌then◌else◌, Some, None};
 ghost use Rattle.std.specs.Ordering.{nat_cmp};
 ghost use Rattle.std.specs.Cmp.Lexicographic.{slice_cmp};
 ghost use Rattle.std.specs.BTreeMap.{IsUnchanged, get};
@@ -11,17 +11,16 @@ ghost use Rattle.query.specs.Query.{formula_of};
 ghost use Rattle.query.specs.Trigrams.{ListsTrigrams};
 ghost use Rattle.index.specs.Text.{IsName, begins_with};
 ghost use Rattle.index.specs.Documents.{document_at, number_of, meets, is_chosen, is_under, IsInNameOrder};
-ghost use Rattle.index.specs.State.{state as state_with, applied, state_of, body_bytes, IsState};
+ghost use Rattle.index.specs.State.{applied, state_of, body_bytes, IsState};
 ghost use Rattle.index.specs.Shared.{documents_shared};
 ghost use Rattle.index.specs.Private.Chosen.{document_numbered, documents_numbered, IsFirstUnder};
-ghost use Rattle.index.specs.Private.Slots.{with_body_at};
 ghost use Rattle.index.specs.Private.Store.{stored, IsStore, HasPlaceFor};
 
 use crate::body::Body;
 use crate::command::Command;
 use crate::document::SharedDocument;
-use crate::error::{ApplyError, HeldError, NameError};
-use crate::held::{Held, trigrams_in};
+use crate::error::{ApplyError, NameError};
+use crate::held::Held;
 use crate::name::Name;
 use crate::slots::{Occupant, occupant_at};
 use crate::store::Store;
@@ -77,7 +76,8 @@ impl Index {
     }
 
     /// Applies a command. At most 4,294,967,295 (2^32 - 1) commands can be applied to an index. An `Err` means that
-    /// memory ran out, or that the name has too many handles; it hands the command back, and the index is as it was.
+    /// memory ran out, or that the name has too many handles; it hands the command back, and the index is as it was. The
+    /// index keeps a copy of the body of a `Put`; `apply_put` shares one instead.
     pub fn apply(&mut self, command: Command) -> Result<(), ApplyError>
         requires { self.old.version + 1 < 2 ^ 32 }
         ensures ok { OnOk result (self.new ≡ applied command self.old) }
@@ -85,7 +85,13 @@ impl Index {
         ensures returned { IfErr result (λ e. e.command ≡ command) }
     {
         match command {
-            Command::Put(name, body) => self.put(name, body),
+            Command::Put(name, body) => match self.put(&name, &body) {
+                Ok(()) => Ok(()),
+                Err(error) => Err(ApplyError {
+                    command: Command::Put(name, body),
+                    error,
+                }),
+            },
             Command::Remove(name) => match self.remove(&name) {
                 Ok(()) => Ok(()),
                 Err(error) => Err(ApplyError {
@@ -96,75 +102,15 @@ impl Index {
         }
     }
 
-    /// Applies the `Put` of this name and body. An `Err` hands them back.
-    fn put(&mut self, name: Name, body: Body) -> Result<(), ApplyError>
+    /// Applies the `Put` of this name and of a copy of this body, so that the body can be handed back after an `Err`.
+    fn put(&mut self, name: &Name, body: &Body) -> Result<(), AllocError>
         requires { self.old.version + 1 < 2 ^ 32 }
-        ensures ok { OnOk result (self.new ≡ applied (put_command name body) self.old) }
+        ensures ok { OnOk result (self.new ≡ applied (put_command name.now body.now) self.old) }
         ensures err { OnErr result (self.new ≡ self.old) }
-        ensures returned { IfErr result (λ e. e.command ≡ put_command name body) }
     {
-        let _ = &self.version;
-        let done = match trigrams_in(&body) {
-            Ok(trigrams) => match self.number(&name) {
-                Some(number) => self.replace(number, body, trigrams),
-                None => self.put_new(&name, body, trigrams),
-            },
-            Err(error) => Err(HeldError { body, error }),
-        };
-        match done {
-            Ok(()) => Ok(()),
-            Err(HeldError { body, error }) => Err(ApplyError {
-                command: Command::Put(name, body),
-                error,
-            }),
-        }
-    }
-
-    /// Applies the `Put` of this body, which has these trigrams, under the name of the document with this number.
-    /// An `Err` hands the body back.
-    fn replace(&mut self, number: u32, body: Body, trigrams: Trigrams) -> Result<(), HeldError>
-        requires limit { self.old.version + 1 < 2 ^ 32 }
-        requires there { IsSome (document_at number self.old.documents) }
-        requires trigrams { ListsTrigrams body trigrams }
-        ensures ok { OnOk result (self.new ≡ state_with (self.old.version + 1) (map (with_body_at number body) self.old.documents)) }
-        ensures err { OnErr result (self.new ≡ self.old) }
-        ensures returned { IfErr result (λ e. e.body ≡ body) }
-    {
-        let change = match self.store.prepare(number, &trigrams) {
-            Ok(change) => change,
-            Err(error) => return Err(HeldError { body, error }),
-        };
-        let held = Held::with(body, trigrams)?;
-        self.store.replace(number, &change, held);
-        self.version += 1;
-        Ok(())
-    }
-
-    /// Applies the `Put` of this body, which has these trigrams, under a name that no document has. An `Err` hands the
-    /// body back.
-    fn put_new(&mut self, name: &Name, body: Body, trigrams: Trigrams) -> Result<(), HeldError>
-        requires limit { self.old.version + 1 < 2 ^ 32 }
-        requires free { number_of name.now self.old.documents ≡ None }
-        requires trigrams { ListsTrigrams body trigrams }
-        ensures ok { OnOk result (self.new ≡ applied (put_command name.now body) self.old) }
-        ensures err { OnErr result (self.new ≡ self.old) }
-        ensures returned { IfErr result (λ e. e.body ≡ body) }
-    {
-        let number = self.version + 1;
-        let own = match enter(&mut self.numbers, &mut self.store, name, number, &trigrams) {
-            Ok(own) => own,
-            Err(error) => return Err(HeldError { body, error }),
-        };
-        match Held::with(body, trigrams) {
-            Ok(held) => {
-                self.store.put_in(number, Occupant { name: own, held });
-                self.version = number;
-                Ok(())
-            }
-            Err(refused) => {
-                self.numbers.remove(name);
-                Err(refused)
-            }
+        match Held::new(body.copy()?) {
+            Ok(held) => self.apply_put(name, &held),
+            Err(_) => Err(AllocError),
         }
     }
 

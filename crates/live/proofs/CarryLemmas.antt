@@ -13,11 +13,11 @@ use Rattle.index.specs.declared.body.TheConstants.{MAX_BODY}
 use Rattle.index.specs.State.{State}
 use Rattle.script.specs.Items.{Item, Numbered, numbered, put}
 use Rattle.script.specs.Items as item
-use Rattle.stream.specs.declared.owned.OwnedItem.{OwnedItem}
-use Rattle.stream.specs.declared.owned.OwnedItem.TheVariants as owned
-use Rattle.stream.specs.Owned.{ShowsOwned}
-use Rattle.reads.specs.declared.item.ReadItem.{ReadItem}
-use Rattle.reads.specs.Read.{AreShown, none, one_more}
+use Rattle.input.specs.declared.owned.OwnedItem.{OwnedItem}
+use Rattle.input.specs.declared.owned.OwnedItem.TheVariants as owned
+use Rattle.input.specs.Owned.{ShowsOwned}
+use Rattle.input.specs.declared.read_item.ReadItem.{ReadItem}
+use Rattle.input.specs.Read.{AreShown, none, one_more}
 use Rattle.steps.specs.Entries.{failures_of}
 use Rattle.steps.specs.LegalRows.{Limits, IsFailedTimes, greatest_failures, IsPut}
 use Rattle.steps.specs.LegalRows as legal

@@ -7,13 +7,13 @@ use Rattle.std.proofs.KnownBytes.{Appends-nil}
 use Rattle.std.proofs.lemmas.List.{length-replicate}
 use Rattle.std.proofs.lemmas.List.Elements.{All-replicate}
 use Rattle.script.specs.Items.{Item, Numbered, numbered, put}
-use Rattle.stream.specs.declared.owned.OwnedItem.{OwnedItem}
-use Rattle.stream.specs.declared.owned.OwnedItem.TheVariants.{Sync}
-use Rattle.stream.specs.Owned.{ShowsOwned}
-use Rattle.reads.specs.declared.item.ReadItem.{ReadItem}
-use Rattle.reads.specs.Read.{AreShown, none, InboxState, inbox_state, Came, CameIn, HasItems, IsReadOf, EndsBy}
-use Rattle.reads.specs.Read as reads
-use Rattle.reads.proofs.FeedLemmas.{some_of_input}
+use Rattle.input.specs.declared.owned.OwnedItem.{OwnedItem}
+use Rattle.input.specs.declared.owned.OwnedItem.TheVariants.{Sync}
+use Rattle.input.specs.Owned.{ShowsOwned}
+use Rattle.input.specs.declared.read_item.ReadItem.{ReadItem}
+use Rattle.input.specs.Read.{AreShown, none, InboxState, inbox_state, Came, CameIn, HasItems, IsReadOf, EndsBy}
+use Rattle.input.specs.Read as reads
+use Rattle.input.proofs.FeedLemmas.{some_of_input}
 use Rattle.steps.specs.Entries.{failures_of}
 use Rattle.steps.specs.Rows.{failures_in, version_in}
 use Rattle.steps.specs.Steps.{RunState, IsFirst, last}

@@ -2,7 +2,7 @@
 use Rattle.std.specs.Prelude.{◌≡◌, ℕ, List, ◌++◌, Option, [], is_some}
 use Rattle.std.specs.Io.KnownBytes.{Appends}
 use Rattle.script.specs.Items.{Numbered}
-use Rattle.reads.specs.Read.{HasItems}
+use Rattle.input.specs.Read.{HasItems}
 use Rattle.steps.specs.Entries.{failures_of}
 use Rattle.steps.specs.LegalRows.{Limits, IsFailedTimes}
 use Rattle.steps.specs.Steps.{RunState, IsFirst, Runs}

@@ -1,7 +1,7 @@
 //! The threads of a session, and the channels between them and it.
 
 use crossbeam_channel::{Receiver, Sender, bounded, unbounded};
-use reads::{Feed, Next};
+use input::{Feed, Next};
 use service::{Done, Gate, Reader, Task};
 use std::alloc::{AllocError, Global};
 use std::io::BufRead;
@@ -20,20 +20,20 @@ const TEXT_AHEAD: usize = 1_048_576;
 
 /// What a session waits for: an item or the end of the reading, or an answer.
 #[derive(Drop)]
-pub(crate) enum Event<J: service::Naming, K: reads::Naming> {
+pub(crate) enum Event<J: service::Naming, K: input::Naming> {
     /// An item, or the end of the reading.
     Read(Next<K>),
     /// An answer.
     Answer(Done<J>),
 }
 
-impl<J: service::Naming, K: reads::Naming> From<Done<J>> for Event<J, K> {
+impl<J: service::Naming, K: input::Naming> From<Done<J>> for Event<J, K> {
     fn from(done: Done<J>) -> Event<J, K> {
         Event::Answer(done)
     }
 }
 
-impl<J: service::Naming, K: reads::Naming> From<Next<K>> for Event<J, K> {
+impl<J: service::Naming, K: input::Naming> From<Next<K>> for Event<J, K> {
     fn from(next: Next<K>) -> Event<J, K> {
         Event::Read(next)
     }
@@ -61,7 +61,7 @@ struct Ends<M> {
 
 /// Who reads the input of a session and answers its searches.
 #[derive(Drop)]
-pub(crate) enum Crew<J: service::Naming, K: reads::Naming, I: BufRead + Drop> {
+pub(crate) enum Crew<J: service::Naming, K: input::Naming, I: BufRead + Drop> {
     /// The session itself: no thread is at work.
     Alone(Feed<K, I>),
     /// Threads: one that reads, and at least one reader that answers.
@@ -87,7 +87,7 @@ fn make_channels<M: Drop>(alloc: Global) -> Result<(Channels<M>, Ends<M>), Alloc
 
 impl<
     J: service::Naming + Send + Sync + 'static,
-    K: reads::Naming + Send + Sync + 'static,
+    K: input::Naming + Send + Sync + 'static,
     I: BufRead + Drop + Send + 'static,
 > Crew<J, K, I> {
     /// Starts a thread for each reader, and one that reads the input. Where there is no memory for that, or a thread cannot
@@ -107,7 +107,7 @@ impl<
 /// Starts the threads. An `Err` hands the input back: no thread is at work, and nothing was read.
 fn start_threads<
     J: service::Naming + Send + Sync + 'static,
-    K: reads::Naming + Send + Sync + 'static,
+    K: input::Naming + Send + Sync + 'static,
     I: BufRead + Drop + Send + 'static,
     M: From<Done<J>> + From<Next<K>> + Drop + Send + 'static,
     R: Threads + Wait + Clock + Sync + Send + Copy + 'static,
@@ -208,7 +208,7 @@ fn work<
 /// Starts the thread that reads the input, and hands out the first permits. An `Err` means that it could not be started,
 /// and nothing was read.
 fn start_reading<
-    K: reads::Naming + Send + Sync + 'static,
+    K: input::Naming + Send + Sync + 'static,
     I: BufRead + Drop + Send + 'static,
     M: From<Next<K>> + Drop + Send + 'static,
     R: Threads + Wait + Clock + Sync + Send + Copy + 'static,
@@ -236,7 +236,7 @@ fn start_reading<
 }
 
 /// Reads item after item, one for each permit, and sends what comes, until the reading ends or nobody takes it.
-fn read<K: reads::Naming, I: BufRead + Drop, M: From<Next<K>> + Drop, R: Wait + Drop>(
+fn read<K: input::Naming, I: BufRead + Drop, M: From<Next<K>> + Drop, R: Wait + Drop>(
     rt: R,
     feed: Feed<K, I>,
     permitted: Receiver<Permit>,
@@ -256,7 +256,7 @@ fn read<K: reads::Naming, I: BufRead + Drop, M: From<Next<K>> + Drop, R: Wait + 
     feed
 }
 
-impl<J: service::Naming, K: reads::Naming, I: BufRead + Drop> Crew<J, K, I> {
+impl<J: service::Naming, K: input::Naming, I: BufRead + Drop> Crew<J, K, I> {
     /// Whether no thread is at work.
     pub(crate) fn is_alone(&self) -> bool {
         matches!(self, Crew::Alone(_))

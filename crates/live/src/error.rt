@@ -2,9 +2,8 @@
 
 ghost use Rattle.std.specs.Prelude.{◌≡◌};
 
-use reads::InboxError;
-use shared::OpenError;
-use stream::StreamError;
+use input::{InboxError, StreamError};
+use published::OpenError;
 use thiserror::Error;
 use transcript::WriteError;
 

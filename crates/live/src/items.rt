@@ -1,14 +1,14 @@
 //! One event after the other.
 
 ghost use Rattle.std.specs.Prelude.{◌≡◌, ℕ, ◌+◌, ◌<◌, ◌≤◌, ◌^◌, ◌⊎◌, true, List, [], ◌∷◌, ◌++◌, IfOk, IfErr, OnOk, OnErr};
-ghost use Rattle.reads.specs.declared.item.ReadItem.{ReadItem as ReadItemValue};
-ghost use Rattle.stream.specs.Owned.{HasNoBody};
+ghost use Rattle.input.specs.declared.read_item.ReadItem.{ReadItem as ReadItemValue};
+ghost use Rattle.input.specs.Owned.{HasNoBody};
 ghost use Rattle.live.specs.Private.Serving.{Start, now, IsSession, IsStopped, IsServing, IsCutOff, IsAdvanced, Answers, AnswersFront, MayTakeNow, TakesEvent, FailsAtEvent, IsPutTaken};
 
 use crate::crew::{Crew, Event};
 use crate::error::{LiveError, of_inbox};
 use crate::session::{Plan, Written};
-use reads::{Inbox, ReadItem};
+use input::{Inbox, OwnedItem, ReadItem};
 use script::{Item, Numbered};
 use service::{Done, Service, Source, Taken, Task};
 use std::alloc::Global;
@@ -16,7 +16,6 @@ use std::io::{BufRead, Write};
 use std::sync::Wait;
 use std::thread::Threads;
 use std::time::Clock;
-use stream::OwnedItem;
 use transcript::Entry;
 
 /// How many searches are open at most. No further item is taken until one of them is answered.
@@ -30,7 +29,7 @@ const MAX_OPEN: usize = 1024;
 /// if an event did not come, which never happens.
 pub(crate) fn step<
     J: service::Naming,
-    K: reads::Naming,
+    K: input::Naming,
     R: Threads + Wait + Clock + Sync,
     S: Source,
     I: BufRead + Drop,
@@ -80,7 +79,7 @@ fn may_take(readers: u32, is_alone: bool, searches: usize) -> bool
 }
 
 /// Waits for the next event. If none is there, the service has time to catch up.
-fn next_event<J: service::Naming, K: reads::Naming, R: Wait, I: BufRead + Drop>(
+fn next_event<J: service::Naming, K: input::Naming, R: Wait, I: BufRead + Drop>(
     plan: &Plan<'_, R>,
     service: &mut Service<J>,
     crew: &mut Crew<J, K, I>,
@@ -99,7 +98,7 @@ fn next_event<J: service::Naming, K: reads::Naming, R: Wait, I: BufRead + Drop>(
 /// Waits for the next event, and takes it. Returns `true`.
 fn take_event<
     J: service::Naming,
-    K: reads::Naming,
+    K: input::Naming,
     R: Threads + Wait + Clock + Sync,
     I: BufRead + Drop,
     O: Write,
@@ -149,7 +148,7 @@ fn take_answer<J: service::Naming, R: Threads + Wait + Clock + Sync, O: Write>(
 /// Takes an item, and writes its entry.
 fn carry_out<
     J: service::Naming,
-    K: reads::Naming,
+    K: input::Naming,
     R: Threads + Wait + Clock + Sync,
     S: Source,
     I: BufRead + Drop,
@@ -203,7 +202,7 @@ fn take_put<J: service::Naming>(
 /// Takes an item other than a put, and writes its entry. A search is handed out.
 fn take<
     J: service::Naming,
-    K: reads::Naming,
+    K: input::Naming,
     R: Threads + Wait + Clock + Sync,
     S: Source,
     I: BufRead + Drop,
@@ -245,7 +244,7 @@ fn take<
 /// Hands a search to the readers. If they cannot have it, it is answered here, and its entry is written.
 fn hand_out<
     J: service::Naming,
-    K: reads::Naming,
+    K: input::Naming,
     R: Threads + Wait + Clock + Sync,
     I: BufRead + Drop,
     O: Write,

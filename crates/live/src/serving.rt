@@ -1,10 +1,10 @@
 //! A session, from its first item to its last.
 
 ghost use Rattle.std.specs.Prelude.{◌≡◌, ◌≢◌, ℕ, ◌<◌, ◌≤◌, List, [], None, IfOk, OnErr};
-ghost use Rattle.reads.specs.Read.{EndsBy, IsReadOf, inbox_state};
+ghost use Rattle.input.specs.Read.{EndsBy, IsReadOf, inbox_state};
 ghost use Rattle.service.specs.Opening.{opened_state};
 ghost use Rattle.service.specs.Service.{first_service};
-ghost use Rattle.shared.specs.declared.opening.TheConstants.{MAX_COMMANDS};
+ghost use Rattle.published.specs.declared.opening.TheConstants.{MAX_COMMANDS};
 ghost use Rattle.live.specs.Private.Serving.{status_by};
 ghost use Rattle.live.specs.Served.{IsServed, IsBroken, limits_in};
 
@@ -13,7 +13,7 @@ use crate::error::{LiveError, of_opening, of_reading};
 use crate::items::step;
 use crate::marks::Marks;
 use crate::session::{Plan, Written};
-use reads::{Feed, Inbox};
+use input::{Feed, Inbox};
 use service::{Gate, Reader, Service, Source, open};
 use std::alloc::Global;
 use std::io::{BufRead, Write};
@@ -97,7 +97,7 @@ pub fn serve<
         Ok(opened) => opened,
         Err(error) => return Err(of_opening(error)),
     };
-    let history = reads::Opened::new();
+    let history = input::Opened::new();
     serve_as::<Brand, Brand, R, S, I, O, G>(
         rt, alloc, opened, history, input, options, source, out, gate,
     )
@@ -106,7 +106,7 @@ pub fn serve<
 /// Serves a session under the names of its opening and of its reading.
 fn serve_as<
     J: service::Naming + Send + Sync + 'static,
-    K: reads::Naming + Send + Sync + 'static,
+    K: input::Naming + Send + Sync + 'static,
     R: Threads + Wait + Clock + Sync + Send + Copy + 'static,
     S: Source,
     I: BufRead + Drop + Send + 'static,
@@ -116,7 +116,7 @@ fn serve_as<
     rt: &R,
     alloc: Global,
     opened: service::Opened,
-    history: reads::Opened,
+    history: input::Opened,
     input: I,
     options: LiveOptions,
     source: &mut S,
@@ -151,7 +151,7 @@ fn serve_as<
 /// Serves a session with a service before its first item.
 fn serve_all<
     J: service::Naming,
-    K: reads::Naming,
+    K: input::Naming,
     R: Threads + Wait + Clock + Sync,
     S: Source,
     I: BufRead + Drop,
@@ -195,7 +195,7 @@ fn serve_all<
 }
 
 /// The status, unless an error ended the reading.
-fn status_at_end<K: reads::Naming>(inbox: &Inbox<K>, marks: Marks) -> Result<u8, LiveError>
+fn status_at_end<K: input::Naming>(inbox: &Inbox<K>, marks: Marks) -> Result<u8, LiveError>
     ensures { IfOk result (λ status. (status ≡ status_by marks) × (inbox.now.over ≢ None → EndsBy K.input inbox.now.came None)) }
 {
     match inbox.over() {

@@ -7,9 +7,6 @@ use Rattle.ere.specs.Tree.{form, trees_of, Tree, empty, set, at_start, at_end, c
 use Rattle.matcher.specs.StarHeight.{star_height, greatest_height, is_set}
 use Rattle.matcher.proofs.MemberLemmas.{trees_at, no_trees}
 
-pub none_needed : (least height : ℕ) → least ≡ 0 → true ≡ nat_le least height
-none_needed least height e = let low : least ≤ height = omega arith in grind (arith, nat_tests)
-
 pub below : (least height : ℕ) → (least ≡ 0 → ⊥) → height ≡ 0 → false ≡ nat_le least height
 below least height some e = let low : height < least = omega (arith, some, e) in grind (arith, nat_tests)
 

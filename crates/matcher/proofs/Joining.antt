@@ -6,12 +6,14 @@ use Rattle.std.proofs.lemmas.List.{get_or-set_same, get_or-set_other, get_or_pas
 use Rattle.std.proofs.lemmas.Grind.{same_number_lists}
 use Rattle.std.proofs.lemmas.Bool.Decides.{nat_tests}
 use Rattle.std.specs.Int.{trailing_zeros}
+use Rattle.std.proofs.lemmas.Bool.{false≢true, and_left}
+use Rattle.std.proofs.Math.Bool.{or-false}
 use Rattle.matcher.specs.declared.words.TheConstants.{WORDS}
 use Rattle.matcher.specs.Private.Bounds.{room_of, IsBounded}
 use Rattle.ere.specs.Bits.{has_bit}
 use Rattle.spans.specs.PositionSets.{has_position}
 use Rattle.matcher.specs.Private.Moves.{more_unless, absent_below, absent, HasNone, IsEither, IsNew}
-use Rattle.spans.proofs.Bits.{false≢true, some_bit, position_in, same_word, empty_word, position_set_same, position_set_other}
+use Rattle.spans.proofs.Bits.{some_bit, position_in, same_word, empty_word, position_set_same, position_set_other}
 use Rattle.matcher.proofs.Shifting.{none_before, none_after}
 
 -- A position has room only if there are no more words than a line needs, and they hold it.
@@ -186,17 +188,13 @@ filled_bounded words at word few h inside = record {
   high = λ i l. get_or-set_other words at i word 0 (omega arith) ∙ h.above i (omega arith);
 }
 
--- A position of the old set, put into an empty set, is the only one there.
-and_none : (a b : Bool) → a ≡ false → (a && b) ≡ false
-and_none a b e = rw e refl
-
 pub kept : (words old : List ℕ) (position word : ℕ) → ((i : ℕ) → get_or words i 0 ≡ 0) → position / 64 < length words
     → ((b : ℕ) → has_bit word b ≡ (b == position % 64 && has_bit (get_or old (position / 64) 0) b)) → (k : ℕ)
     → has_position (set words (position / 64) word) k ≡ (k == position && has_position old k)
 kept words old position word none inside only k = go (k / 64 == position / 64) refl
   where
     other : k == position ≡ false → (k == position && has_position old k) ≡ false
-    other e = and_none (k == position) (has_position old k) e
+    other e = and_left (k == position) (has_position old k) e
 
     same_test : k / 64 ≡ position / 64 → (k % 64 == position % 64) ≡ (k == position)
     same_test e = pick (k == position) refl
@@ -282,10 +280,6 @@ pub record IsAddedTo (size : ℕ) (old_found old_fresh found fresh : List ℕ) (
   pub found_above : (i : ℕ) → at ≤ i → get_or found i 0 ≡ get_or old_found i 0
   pub fresh_above : (i : ℕ) → at ≤ i → get_or fresh i 0 ≡ get_or old_fresh i 0
 
-or_false : (b : Bool) → b ≡ (b || false)
-or_false true = refl
-or_false false = refl
-
 pub added_first : {size : ℕ} (found fresh : List ℕ) (first end : ℕ) → length found ≡ size → IsBounded size fresh first end
     → IsAddedTo size found fresh found fresh first first
 added_first found fresh first end whole bounds = record {
@@ -293,7 +287,7 @@ added_first found fresh first end whole bounds = record {
   fresh_whole = bounds.whole;
   found_low = λ i l. refl;
   fresh_low = λ i l. refl;
-  found_below = λ k l. rw (none_before bounds k l) (or_false (has_position found k));
+  found_below = λ k l. rw (none_before bounds k l) (sym (or-false (has_position found k)));
   fresh_below = λ k l. rw (none_before bounds k l) refl;
   found_above = λ i l. refl;
   fresh_above = λ i l. refl;
@@ -357,7 +351,7 @@ module _ {size : ℕ} (old_found old_fresh found fresh : List ℕ) (first at end
       go k false e =
           let far : at * 64 ≤ k = grind (arith, nat_tests) in
           let none : has_position old_fresh k ≡ false = none_after bounds k (omega arith) in
-          same_word found old_found k (h.found_above (k / 64) (omega arith)) ∙ rw none (or_false (has_position old_found k))
+          same_word found old_found k (h.found_above (k / 64) (omega arith)) ∙ rw none (sym (or-false (has_position old_found k)))
 
   pub added_fresh : IsNew old_fresh old_found fresh
   added_fresh = record { each = λ k. go k (nat_lt k (at * 64)) refl }
@@ -502,13 +496,10 @@ taken_window words here i none inside room = record { each = λ k. go k (k / 64 
         let gone : has_position (set words i 0) k ≡ false = empty_word (set words i 0) k (rw same (get_or-set_same words i 0 0 inside)) in
         let held : has_position (set here i (get_or words i 0)) k ≡ has_position words k =
         same_word (set here i (get_or words i 0)) words k (rw same (get_or-set_same here i (get_or words i 0) 0 room)) in
-        rw (held, gone) (or_false (has_position words k))
+        rw (held, gone) (sym (or-false (has_position words k)))
     go k false e =
         let apart : k / 64 ≢ i = grind (arith, nat_tests) in
         let left : has_position (set words i 0) k ≡ has_position words k = position_set_other words i 0 k apart in
         let gone : has_position (set here i (get_or words i 0)) k ≡ false =
         empty_word (set here i (get_or words i 0)) k (get_or-set_other here i (k / 64) (get_or words i 0) 0 apart ∙ none (k / 64)) in
         rw (left, gone) refl
-
-pub taken_nothing : (words here : List ℕ) → HasNone here → IsEither here words words
-taken_nothing words here none = record { each = λ k. rw (none.none k) refl }

@@ -9,4 +9,3 @@ pub mod Longer
 pub mod MemberLemmas
 pub mod HeightLemmas
 pub mod StepLemmas
-mod AnchoredLemmas

@@ -30,7 +30,7 @@ pub holds_start : HoldsInLonger at_start
 unfolding Spans
 holds_start line count from to h = h
 
-steps_held : (inner relation : Relation) → ((i k : ℕ) → inner i k → relation i k) → (count i k : ℕ) → Steps inner count i k → Steps relation count i k
+pub steps_held : (inner relation : Relation) → ((i k : ℕ) → inner i k → relation i k) → (count i k : ℕ) → Steps inner count i k → Steps relation count i k
 unfolding Steps
 steps_held inner relation one zero i k h = h
 steps_held inner relation one (suc count) i k h = (h.0, steps_held inner relation one count i h.0 h.1, one h.0 k h.2)

@@ -3,6 +3,8 @@ use Rattle.std.proofs.Common.{◌≡◌, ◌≢◌, ℕ, zero, suc, ◌+◌, ◌
 use Rattle.std.proofs.Common.{nat_lt, IsTrue, MatchBool, List, [], ◌∷◌, length, refl, sym, ap, subst, ◌∙◌, arith}
 use Rattle.std.proofs.lemmas.List.{get_or_past}
 use Rattle.std.proofs.lemmas.Bool.Decides.{nat_tests}
+use Rattle.std.proofs.Math.Bool.{or-false}
+use Rattle.std.proofs.lemmas.Bool.{and_right}
 use Rattle.ere.specs.Tree as tree
 use Rattle.ere.specs.Bits.{has_bit}
 use Rattle.spans.specs.PositionSets.{has_position}
@@ -10,9 +12,9 @@ use Rattle.matcher.specs.Private.Moves.{absent, HasNone, IsEither, IsNew, Moves}
 use Rattle.matcher.specs.Private.Moving.{passes, arrives, comes, flood}
 use Rattle.spans.specs.Spans.{Spans, Steps}
 use Rattle.ere.proofs.Bits.{has_zero}
-use Rattle.spans.proofs.Bits.{or_none, position_in, empty_word}
+use Rattle.spans.proofs.Bits.{position_in, empty_word}
 use Rattle.matcher.proofs.Joining.{some_position, added_grows}
-use Rattle.matcher.proofs.Shifting.{and_false, none_passes, comes_word, moves_shifted, moves_swept}
+use Rattle.matcher.proofs.Shifting.{none_passes, comes_word, moves_shifted, moves_swept}
 
 -- the bits of the word are the positions, and there are no others
 pub one_in : (word k : ℕ) → k < 64 → has_position (word ∷ []) k ≡ has_bit word k
@@ -37,7 +39,7 @@ pub one_none : HasNone (0 ∷ [])
 one_none = record { none = one_each 0 (λ _. false) (λ k l. has_zero k) (λ k l. refl) }
 
 pub one_taken : (word : ℕ) → IsEither (word ∷ []) (0 ∷ []) (word ∷ [])
-one_taken word = record { each = λ k. rw (one_none.none k) (sym (or_none (has_position (word ∷ []) k))) }
+one_taken word = record { each = λ k. rw (one_none.none k) (sym (or-false (has_position (word ∷ []) k))) }
 
 pub one_empty : (word : ℕ) → word < 2 ^ 64 → MatchBool (word == 0) (HasNone (word ∷ [])) ((k : ℕ) × IsTrue (has_position (word ∷ []) k))
 one_empty word small = go (word == 0) refl
@@ -56,7 +58,7 @@ pub one_kept : (old new position : ℕ) → ((b : ℕ) → has_bit new b ≡ (b 
     → has_position (new ∷ []) k ≡ (k == position && has_position (old ∷ []) k)
 one_kept old new position each =
     one_each new (λ k. k == position && has_position (old ∷ []) k) (λ k l. each k ∙ ap (λ t. k == position && t) (sym (one_in old k l)))
-    (λ k far. and_false (k == position) (has_position (old ∷ []) k) (one_out old k far))
+    (λ k far. and_right (k == position) (has_position (old ∷ []) k) (one_out old k far))
 
 pub one_either : (left right both : ℕ) → ((b : ℕ) → has_bit both b ≡ (has_bit left b || has_bit right b)) → IsEither (left ∷ []) (right ∷ []) (both ∷ [])
 one_either left right both each =
@@ -101,7 +103,7 @@ module _ (line : List ℕ) (members : List Bool) (short : length line ≤ 63) wh
 
       outside : (k : ℕ) → 64 ≤ k → arrives members line (old ∷ []) k ≡ false
       outside zero far = refl
-      outside (suc k) far = and_false (has_position (old ∷ []) k) (passes members line k) (none_passes members line k (omega arith))
+      outside (suc k) far = and_right (has_position (old ∷ []) k) (passes members line k) (none_passes members line k (omega arith))
 
   pub one_swept : (old new : ℕ) → ((b : ℕ) → b < 64 → has_bit new b ≡ flood (has_bit old) (λ n. passes members line (0 + n)) b)
       → Moves (λ from to. (count : ℕ) × Steps (Spans line (tree.set members)) count from to) (old ∷ []) (new ∷ [])
@@ -111,7 +113,7 @@ module _ (line : List ℕ) (members : List Bool) (short : length line ≤ 63) wh
       held : (b : ℕ) → b < 64 → has_bit old b ≡ (has_position (old ∷ []) (0 + b) || has_bit 0 b)
       held b low =
           let place : b ≡ 0 + b = omega arith in
-          sym (one_in old b low) ∙ ap (λ n. has_position (old ∷ []) n) place ∙ sym (or_none (has_position (old ∷ []) (0 + b)))
+          sym (one_in old b low) ∙ ap (λ n. has_position (old ∷ []) n) place ∙ sym (or-false (has_position (old ∷ []) (0 + b)))
           ∙ ap (λ t. has_position (old ∷ []) (0 + b) || t) (sym (has_zero b))
 
       inside : (k : ℕ) → k < 64 → has_bit new k ≡ flood (has_position (old ∷ [])) (passes members line) k
@@ -125,6 +127,6 @@ module _ (line : List ℕ) (members : List Bool) (short : length line ≤ 63) wh
       outside zero far = absurd (omega arith)
       outside (suc k) far =
           let none : comes (has_position (old ∷ [])) (passes members line) (suc k) ≡ false =
-          and_false (has_position (old ∷ []) k || comes (has_position (old ∷ [])) (passes members line) k) (passes members line k)
+          and_right (has_position (old ∷ []) k || comes (has_position (old ∷ [])) (passes members line) k) (passes members line k)
           (none_passes members line k (omega arith)) in
           rw (one_out old (suc k) far, none) refl

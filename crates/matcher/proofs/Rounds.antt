@@ -1,25 +1,19 @@
 -- Rounds of a repeat: each goes on only from new positions, and can leave out what positions of `done` lead to.
 use Rattle.std.proofs.Common.{◌≡◌, ℕ, zero, suc, ◌+◌, ◌-◌, ◌≤◌, ◌<◌, Bool, true, false, not, ◌&&◌, IsTrue, List, length, get_or, drop, map}
 use Rattle.std.proofs.Common.{Option, Some, None, ◌⊎◌, inl, inr, refl, sym, subst, ◌∙◌, arith}
+use Rattle.std.proofs.lemmas.Bool.{false≢true, and_parts}
+use Rattle.matcher.proofs.Longer.{steps_held}
 use Rattle.ere.specs.declared.tree.Ere.{Ere}
 use Rattle.ere.specs.Tree.{form, trees_of, Tree, empty, cat, alt, repeat, Trees, more}
 use Rattle.spans.specs.Spans.{Relation, Steps, Spans, SpansEach, SpansSome}
 use Rattle.spans.specs.PositionSets.{has_position}
 use Rattle.matcher.specs.Private.Moves.{HasNone, IsEither, IsNew, Moves, MovesIf, MovesPast}
 use Rattle.matcher.specs.Private.Rounds.{AnySteps, MoreSteps, Covered, IsRounded, GoesOn, IsWidened}
-use Rattle.spans.proofs.Bits.{false≢true}
 use Rattle.matcher.proofs.Walks.{not_held, in_left, in_right, in_either, decide, moves_none, moves_then, moves_each_more}
 use Rattle.matcher.proofs.Walks.{trees_from, steps_split, steps_join}
 
 pub past_of_moves : (relation : Relation) (done from to : List ℕ) → Moves relation from to → MovesPast relation done from to
 past_of_moves relation done from to h = record { sound = h.sound; complete = λ i k held r. inl (h.complete i k held r) }
-
-pub moves_of_past : (relation : Relation) (done from to : List ℕ) → HasNone done → MovesPast relation done from to → Moves relation from to
-moves_of_past relation done from to none_done h = record { sound = h.sound; complete = λ i k held r. found k (h.complete i k held r) }
-  where
-    found : (k : ℕ) → IsTrue (has_position to k) ⊎ Covered relation done k → IsTrue (has_position to k)
-    found k (inl x) = x
-    found k (inr w) = absurd (not_held none_done w.0 w.1)
 
 pub past_cat : (line : List ℕ) (members : Trees) (done from to : List ℕ) → MovesPast (SpansEach line members) done from to
     → MovesPast (Spans line (cat members)) done from to
@@ -232,19 +226,9 @@ past_by_member line members i member done from one rest both inside e first othe
     subst (λ trees. MovesPast (SpansSome line trees) done from both) (sym (trees_from members i member inside e))
     (past_some_more line (form member) (trees_of (map form (drop (i + 1) members))) done from one rest both first others either)
 
-and_left : (a b : Bool) → IsTrue (a && b) → IsTrue a
-and_left true b e = refl
-and_left false b e = e
-
 -- What is new is one of the next positions.
 was_next : {next found new : List ℕ} → IsNew next found new → (k : ℕ) → IsTrue (has_position new k) → IsTrue (has_position next k)
-was_next {next} {found} new k held = and_left (has_position next k) (not (has_position found k)) (sym (new.each k) ∙ held)
-
--- Steps of a relation are steps of one that contains it.
-steps_longer : (inner relation : Relation) → ((i k : ℕ) → inner i k → relation i k) → (count i k : ℕ) → Steps inner count i k → Steps relation count i k
-unfolding Steps
-steps_longer inner relation longer zero i k h = h
-steps_longer inner relation longer (suc count) i k h = (h.0, steps_longer inner relation longer count i h.0 h.1, longer h.0 k h.2)
+was_next {next} {found} new k held = (and_parts (has_position next k) (not (has_position found k)) (sym (new.each k) ∙ held)).0
 
 pub rounded_first : (relation : Relation) (done start found known fresh : List ℕ) → HasNone found → IsEither done start known
     → IsNew start done fresh → IsRounded relation done start found done known fresh
@@ -377,7 +361,7 @@ module _ (inner relation : Relation) (longer : (i k : ℕ) → inner i k → rel
   part_begun k held =
       let a = widened.sound k held in
       let b = h.begun a.0 (in_left split a.0 a.1) in
-      (b.0, b.1, (b.2.0 + a.2.0, steps_join relation b.2.0 a.2.0 b.0 a.0 k b.2.1 (steps_longer inner relation longer a.2.0 a.0 k a.2.1)))
+      (b.0, b.1, (b.2.0 + a.2.0, steps_join relation b.2.0 a.2.0 b.0 a.0 k b.2.1 (steps_held inner relation longer a.2.0 a.0 k a.2.1)))
 
   part_moved : (k : ℕ) → IsTrue (has_position on.next k) → (i : ℕ) × IsTrue (has_position start i) × MoreSteps relation i k
   unfolding Steps

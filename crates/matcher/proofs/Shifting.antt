@@ -4,6 +4,7 @@ use Rattle.std.proofs.Common.{nat_le, nat_lt, IsTrue, List, length, get_or, set,
 use Rattle.std.proofs.lemmas.List.{get_or-set_same, get_or-set_other}
 use Rattle.std.proofs.lemmas.Bool.Decides.{nat_tests}
 use Rattle.std.proofs.lemmas.Nat.Bits.{bit_at_above}
+use Rattle.std.proofs.lemmas.Bool.{false≢true, and_right, or_cases, or_left, or_right}
 use Rattle.ere.specs.ByteSet.{has}
 use Rattle.ere.specs.Tree as tree
 use Rattle.matcher.specs.Private.Bounds.{IsBounded}
@@ -13,11 +14,7 @@ use Rattle.ere.specs.Bits.{has_bit}
 use Rattle.spans.specs.PositionSets.{has_position}
 use Rattle.matcher.specs.Private.Moves.{Moves}
 use Rattle.ere.proofs.Bits.{has_zero}
-use Rattle.spans.proofs.Bits.{false≢true, position_in, same_word, empty_word, position_set_same, position_set_other}
-
-pub and_false : (a b : Bool) → b ≡ false → (a && b) ≡ false
-and_false true b e = e
-and_false false b e = refl
+use Rattle.spans.proofs.Bits.{position_in, same_word, empty_word, position_set_same, position_set_other}
 
 -- at the line's end, and from there on, no byte follows
 pub none_passes : (members : List Bool) (line : List ℕ) (k : ℕ) → length line ≤ k → passes members line k ≡ false
@@ -178,7 +175,7 @@ none_carried members line old end short = go (end * 64) refl
   where
     go : (k : ℕ) → k ≡ end * 64 → arrives members line old k ≡ false
     go zero e = refl
-    go (suc k) e = and_false (has_position old k) (passes members line k) (none_passes members line k (omega arith))
+    go (suc k) e = and_right (has_position old k) (passes members line k) (none_passes members line k (omega arith))
 
 -- The sweep is made for the words before `i`.
 pub record IsSwept (size : ℕ) (members : List Bool) (line old new : List ℕ) (first i carried : ℕ) : Type 0 where
@@ -312,7 +309,7 @@ none_swept_on members line old i short = go (i * 64) refl
     go : (k : ℕ) → k ≡ i * 64 → comes (has_position old) (passes members line) k ≡ false
     go zero e = refl
     go (suc k) e =
-        and_false (has_position old k || comes (has_position old) (passes members line) k) (passes members line k)
+        and_right (has_position old k || comes (has_position old) (passes members line) k) (passes members line k)
         (none_passes members line k (omega arith))
 
 -- a conjunction of three, taken apart and made
@@ -375,18 +372,6 @@ step_is line members old new each (suc k) = rw back (there, back_again)
         let test : IsTrue (nat_lt k (length line)) = grind (arith, nat_tests) in
         each (suc k) ∙ and_made (has_position old k) (nat_lt k (length line)) (has members (get_or line k 0)) h.2 test h.3
 
-either : (a b : Bool) → IsTrue (a || b) → IsTrue a ⊎ IsTrue b
-either true b h = inl refl
-either false b h = inr h
-
-or_left : (a b : Bool) → IsTrue a → IsTrue (a || b)
-or_left true b h = refl
-or_left false b h = absurd (false≢true h)
-
-or_right : (a b : Bool) → IsTrue b → IsTrue (a || b)
-or_right true b h = refl
-or_right false b h = h
-
 abbrev Comes : List ℕ → List Bool → List ℕ → ℕ → Type 0
 Comes line members old k = (start : ℕ) × IsTrue (has_position old start) × ((words : ℕ) × Steps (Spans line (tree.set members)) words start k)
 
@@ -412,12 +397,12 @@ moves_swept line members old new each = record {
         more k (before parts.0) parts.1 parts.2
 
     sound : (k : ℕ) → IsTrue (flood (has_position old) (passes members line) k) → Comes line members old k
-    sound zero h = pick (either (has_position old 0) false h)
+    sound zero h = pick (or_cases (has_position old 0) false h)
       where
         pick : IsTrue (has_position old 0) ⊎ IsTrue false → Comes line members old 0
         pick (inl x) = (0, x, (0, refl))
         pick (inr x) = absurd (false≢true x)
-    sound (suc k) h = next k (sound k) (either (has_position old (suc k)) (flood (has_position old) (passes members line) k && passes members line k) h)
+    sound (suc k) h = next k (sound k) (or_cases (has_position old (suc k)) (flood (has_position old) (passes members line) k && passes members line k) h)
 
     held_reached : (k : ℕ) → IsTrue (has_position old k) → IsTrue (flood (has_position old) (passes members line) k)
     held_reached k h = or_left (has_position old k) (comes (has_position old) (passes members line) k) h

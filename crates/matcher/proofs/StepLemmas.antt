@@ -1,5 +1,5 @@
 -- Steps of the matcher, variant by variant.
-use Rattle.std.proofs.Common.{◌≡◌, ℕ, ◌+◌, ◌-◌, ◌*◌, ◌<◌, ◌≤◌, Bool, true, false, ◌||◌, List, length, get_or, drop, map, min, Option, Some, None, refl, ap, ◌∙◌, arith}
+use Rattle.std.proofs.Common.{◌≡◌, ℕ, ◌+◌, ◌-◌, ◌*◌, ◌≤◌, Bool, true, false, ◌||◌, List, map, min, Some, None, refl, ap, arith}
 use Rattle.std.proofs.Math.Nat.{mul-le-mul_left}
 use native.Mathlib.Decide.{dec_le}
 use Rattle.std.specs.declared.alloc.Global.{Global}
@@ -9,23 +9,12 @@ use Rattle.ere.specs.declared.tree.Ere.{Ere}
 use Rattle.ere.specs.declared.tree.Ere.TheVariants.{Empty, Set, Start, End, Cat, Alt, Repeat}
 use Rattle.ere.specs.Tree.{Tree, Trees, none, more, trees_of, form}
 use Rattle.ere.proofs.Forms.{form-Empty, form-Set, form-Start, form-End, form-Cat, form-Alt, form-Repeat}
-use Rattle.matcher.proofs.MemberLemmas.{trees_at, no_trees}
 use Rattle.matcher.specs.StarHeight.{is_set}
 use Rattle.matcher.specs.Steps.{steps, steps_in, goes_far, some_go_far, rounds_of}
 
 -- the plain trees of members
 abbrev pub forms : List Ere → Trees
 forms members = trees_of (map form members)
-
--- The members from one on are that member and those after it.
-pub forms_back : (members : List Ere) (i : ℕ) (x : Ere) → 0 < i → i ≤ length members → x ≡ get_or members (i - 1) x
-    → forms (drop (i - 1) members) ≡ more (form x) (forms (drop i members))
-forms_back members i x above within read =
-    let same : i - 1 + 1 ≡ i = omega arith in
-    trees_at members (i - 1) x (omega arith) read ∙ ap (λ k. more (form x) (forms (drop k members))) same
-
-pub forms_end : (members : List Ere) → forms (drop (length members) members) ≡ none
-forms_end members = no_trees members (length members) (omega arith)
 
 pub steps-Empty : (e : Ere) → e ≡ Empty → steps (form e) ≡ 1
 unfolding steps

@@ -4,6 +4,8 @@ use Rattle.std.proofs.Common.{List, length, get_or, drop, map, Option, Some, Non
 use Rattle.std.proofs.Common.{arith}
 use Rattle.std.proofs.lemmas.Bool.Decides.{nat_tests}
 use Rattle.std.proofs.lemmas.List.{at_drop_more, at_drop_all}
+use Rattle.std.proofs.lemmas.Bool.{false≢true}
+use Rattle.matcher.proofs.MemberLemmas.{no_trees}
 use Rattle.ere.specs.declared.tree.Ere.{Ere}
 use Rattle.ere.specs.Tree.{form, trees_of, Tree, empty, at_start, at_end, cat, alt, repeat, Trees, none, more}
 use Rattle.spans.specs.Spans.{Relation, Steps, Spans, SpansEach, SpansSome}
@@ -11,7 +13,6 @@ use Rattle.spans.specs.PositionSets.{has_position}
 use Rattle.matcher.specs.Private.Moves.{HasNone, IsEither, IsNew, Moves}
 use Rattle.ere.specs.Language.{ContainsMatch}
 use Rattle.matcher.specs.Private.Rounds.{AnySteps}
-use Rattle.spans.proofs.Bits.{false≢true}
 use Rattle.spans.proofs.Meaning.{hit_of_spans, spans_of_hit}
 
 pub not_held : {places : List ℕ} → HasNone places → (k : ℕ) → IsTrue (has_position places k) → ⊥
@@ -254,13 +255,6 @@ widened_all relation allowed start found fresh h none_fresh (suc count) i k held
     next (inl x) = absurd (not_held none_fresh r.0 x)
     next (inr x) = x
 
-pub moves_any : (relation : Relation) (start found fresh : List ℕ) → IsWidened relation (λ _. Unit {0}) start found fresh → HasNone fresh
-    → Moves (AnySteps relation) start found
-moves_any relation start found fresh h none_fresh = record {
-  sound = λ k held. let w = h.sound k held in (w.0, w.2, (w.1, w.4));
-  complete = λ i k held r. widened_all relation (λ _. Unit {0}) start found fresh h none_fresh r.0 i k held r.1;
-}
-
 -- by at most this many steps
 abbrev pub FewSteps : Relation → ℕ → Relation
 FewSteps relation most from to = (words : ℕ) × (words ≤ most) × Steps relation words from to
@@ -436,9 +430,6 @@ trees_from members i member inside e =
     at_drop_more (λ rest. trees_of (map form rest)) members i member inside
     ∙ ap (λ m. more (form m) (trees_of (map form (drop (i + 1) members)))) (sym e)
 
-pub trees_past : (members : List Ere) (i : ℕ) → length members ≤ i → trees_of (map form (drop i members)) ≡ none
-trees_past members i past = at_drop_all (λ rest. trees_of (map form rest)) members i past
-
 pub moves_members : (line : List ℕ) (members : List Ere) (i : ℕ) (member : Ere) (from middle to : List ℕ) → i < length members
     → member ≡ get_or members i member → Moves (Spans line (form member)) from middle
     → Moves (SpansEach line (trees_of (map form (drop (i + 1) members)))) middle to
@@ -449,7 +440,7 @@ moves_members line members i member from middle to inside e one rest =
 
 pub moves_no_members : (line : List ℕ) (members : List Ere) (i : ℕ) (at : List ℕ) → length members ≤ i
     → Moves (SpansEach line (trees_of (map form (drop i members)))) at at
-moves_no_members line members i at past = subst (λ trees. Moves (SpansEach line trees) at at) (sym (trees_past members i past)) (moves_each_none line at)
+moves_no_members line members i at past = subst (λ trees. Moves (SpansEach line trees) at at) (sym (no_trees members i past)) (moves_each_none line at)
 
 pub moves_by_member : (line : List ℕ) (members : List Ere) (i : ℕ) (member : Ere) (from one rest both : List ℕ) → i < length members
     → member ≡ get_or members i member → Moves (Spans line (form member)) from one
@@ -462,7 +453,7 @@ moves_by_member line members i member from one rest both inside e first others e
 pub moves_by_no_member : (line : List ℕ) (members : List Ere) (i : ℕ) (from to : List ℕ) → length members ≤ i → HasNone to
     → Moves (SpansSome line (trees_of (map form (drop i members)))) from to
 moves_by_no_member line members i from to past none_to =
-    subst (λ trees. Moves (SpansSome line trees) from to) (sym (trees_past members i past)) (moves_some_none line from to none_to)
+    subst (λ trees. Moves (SpansSome line trees) from to) (sym (no_trees members i past)) (moves_some_none line from to none_to)
 
 -- A walk from all positions of a line leaves a position exactly if the line contains a match.
 module _ (tree : Tree) (line : List ℕ) (all left : List ℕ) (every : (k : ℕ) → has_position all k ≡ nat_le k (length line))

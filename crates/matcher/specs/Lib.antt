@@ -1,4 +1,3 @@
-pub mod Anchored
 pub mod Private
 pub mod StarHeight
 pub mod Steps

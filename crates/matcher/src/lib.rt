@@ -5,7 +5,6 @@
 //! 9.4.9 those of anchors. Matching allocates nothing.
 #![tactic(auto)]
 
-mod anchored;
 mod one_word;
 mod plain;
 mod position_set;
@@ -26,7 +25,6 @@ use crate::position_set::PositionSet;
 use crate::positions::Positions;
 use crate::walk::advance;
 use crate::words::BITS;
-pub use anchored::anchored_text;
 use ere::Ere;
 use lines::MAX_LINE;
 pub use steps::is_quick;

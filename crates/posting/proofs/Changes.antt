@@ -7,18 +7,11 @@ use Rattle.std.proofs.lemmas.Bool.Decides.{nat_tests}
 use Rattle.std.proofs.lemmas.List.{append-nil, get_or_append_left}
 use Rattle.std.proofs.Math.Seq.{get_or-append_seam}
 use Rattle.std.proofs.lemmas.List.Elements.{All-from_get_or, All-push, All-weaker}
+use Rattle.std.proofs.Math.Bool.{or-false, or-true, and-true}
 use Rattle.posting.specs.ListValue.{has, without}
-use Rattle.posting.specs.Postings.{NumberSet, slot_limit, set_of, holds, IsPrepared, IsAbsent, AllDiffer, SameSets, KeepsRoom, WithdrawsNumber, GivesBack}
+use Rattle.posting.specs.Postings.{NumberSet, slot_limit, set_of, holds, IsPrepared, IsAbsent, AllDiffer, KeepsRoom, WithdrawsNumber, GivesBack}
 use Rattle.posting.proofs.SetLemmas.{has-push, has-filter}
 use Rattle.posting.proofs.Members.{has_at, All-has, lacks_from_all}
-
-or_true : (a : Bool) → (a || true) ≡ true
-or_true true = refl
-or_true false = refl
-
-or_false : (a : Bool) → (a || false) ≡ a
-or_false true = refl
-or_false false = refl
 
 -- what holds for each number in a list holds for all
 pub All-from_has : (P : ℕ → Type 0) (xs : List ℕ) → ((m : ℕ) → has xs m ≡ true → P m) → All P xs
@@ -71,13 +64,13 @@ added_more old now new past m number h fresh at others = record {
         rw (← is) (at n ∙ ap (λ s. has s.members n || number == n) same_at)
     came t n there false e =
         let ne : t ≢ m = grind (arith, nat_tests) in
-        ap (λ s. has s.members n) (others t ne) ∙ h.done t n (sym (or_false (has past t)) ∙ rw e at there)
+        ap (λ s. has s.members n) (others t ne) ∙ h.done t n (sym (or-false (has past t)) ∙ rw e at there)
 
     stayed : (t : ℕ) → (has past t || m == t) ≡ false → (same : Bool) → (m == t) ≡ same → set_of new t ≡ set_of old t
-    stayed t absent true e = absurd (false≢true (sym (rw (e, or_true (has past t)) at absent)))
+    stayed t absent true e = absurd (false≢true (sym (rw (e, or-true (has past t)) at absent)))
     stayed t absent false e =
         let ne : t ≢ m = grind (arith, nat_tests) in
-        others t ne ∙ h.left t (sym (or_false (has past t)) ∙ rw e at absent)
+        others t ne ∙ h.left t (sym (or-false (has past t)) ∙ rw e at absent)
 
 -- the next set has room for the number, and does not have it
 pub next_has_room : (old now : List NumberSet) (past : List ℕ) (m : ℕ) (left : List ℕ) (number : ℕ) → Added old now past number
@@ -97,11 +90,7 @@ holds-added old new trigrams number h t n = cases (has trigrams t) refl
   where
     cases : (named : Bool) → has trigrams t ≡ named → holds new t n ≡ (holds old t n || (has trigrams t && number == n))
     cases true e = rw e (h.done t n e)
-    cases false e = rw e (ap (λ s. has s.members n) (h.left t e) ∙ sym (or_false (holds old t n)))
-
-and_true : (a : Bool) → a ≡ (a && true)
-and_true true = refl
-and_true false = refl
+    cases false e = rw e (ap (λ s. has s.members n) (h.left t e) ∙ sym (or-false (holds old t n)))
 
 twice : (held named is : Bool) → ((held && not (named && is)) && not is) ≡ (held && not ((named || true) && is))
 twice true true true = refl
@@ -120,7 +109,7 @@ pub record Withdrawn (old new : List NumberSet) (trigrams : List ℕ) (number : 
   pub empty : GivesBack new trigrams
 
 pub withdrawn_none : (table : List NumberSet) (number : ℕ) → Withdrawn table table [] number
-withdrawn_none table number = record { sets = λ t n. and_true (holds table t n); empty = λ t there none. absurd (false≢true there) }
+withdrawn_none table number = record { sets = λ t n. sym (and-true (holds table t n)); empty = λ t there none. absurd (false≢true there) }
 
 pub withdrawn_more : (old now new : List NumberSet) (past : List ℕ) (m number : ℕ) → Withdrawn old now past number
     → (set_of new m).members ≡ without number (set_of now m).members → ((t : ℕ) → t ≢ m → set_of new t ≡ set_of now t)
@@ -147,7 +136,7 @@ withdrawn_more old now new past m number h at others empty = record {
     gone t there none false e =
         let ne : t ≢ m = grind (arith, nat_tests) in
         let same = others t ne in
-        rw same (h.empty t (sym (or_false (has past t)) ∙ rw e at there) (ap (λ s. s.members) (sym same) ∙ none))
+        rw same (h.empty t (sym (or-false (has past t)) ∙ rw e at there) (ap (λ s. s.members) (sym same) ∙ none))
 
 -- where memory is given back afterwards
 pub withdrawn_ends : (old now new : List NumberSet) (trigrams : List ℕ) (number : ℕ) → Withdrawn old now trigrams number
@@ -178,7 +167,3 @@ prepared_more old now new number past m h sets room at = record {
       All-push (λ t. number < (set_of new t).limit) past m
       (All-weaker (λ t. number < (set_of now t).limit) (λ t. number < (set_of new t).limit) (λ t some. omega (arith, room t)) past h.prepared) at;
 }
-
-pub same_sets : (old now new : List NumberSet) → ((t : ℕ) → (set_of now t).members ≡ (set_of old t).members)
-    → ((t : ℕ) → (set_of new t).members ≡ (set_of now t).members) → SameSets old new
-same_sets old now new first then t n = ap (λ ms. has ms n) (then t ∙ first t)

@@ -1,19 +1,16 @@
 -- Numbers in groups of seven bits, written and read back.
 use Rattle.std.proofs.Common.{◌≡◌, ℕ, zero, suc, ◌+◌, ◌-◌, ◌*◌, ◌/◌, ◌%◌, ◌^◌, ◌<◌, ◌≤◌, Bool, true, false, cond, nat_lt, List, [], ◌∷◌, ◌++◌}
 use Rattle.std.proofs.Common.{length, refl, sym, ap, ◌∙◌, arith, append_assoc, length-append}
-use Rattle.std.proofs.Common.{get_or, set, take, drop, length-set, length-drop}
+use Rattle.std.proofs.Common.{get_or, set, take, drop, length-set}
 use Rattle.std.specs.Prelude.{All}
 use Rattle.std.specs.List.{count_by}
 use Rattle.std.specs.List.Sorted.{IsStrictlyIncreasing}
 use Rattle.std.proofs.lemmas.Bool.Decides.{nat_tests}
 use Rattle.std.proofs.lemmas.List.Sums.{sum_by-cons}
-use Rattle.std.proofs.lemmas.List.{drop_more, length-take-le, take-append-drop, take_all}
-use lib.Seq.{paste}
-use Rattle.std.proofs.lemmas.List.Edits.{take-paste}
-use Rattle.std.proofs.lemmas.Slice.{drop-append-drop}
-use Rattle.std.proofs.Math.Seq.{set-append_seam, take-append_seam}
+use Rattle.std.proofs.lemmas.List.{drop_more, length-take-le, take-append-drop}
+use Rattle.std.proofs.Math.Seq.{set-append_seam}
 use Rattle.std.proofs.lemmas.List.Elements.{All-head, All-tail, All-weaker}
-use Rattle.posting.specs.Stored.{groups, bytes_of, bytes_after, stored_bytes}
+use Rattle.posting.specs.Stored.{groups, bytes_of, bytes_after}
 use Rattle.posting.specs.Private.Gaps.{numbers_in, numbers_after, last_of, limit, IsSpelled}
 use Rattle.posting.proofs.Rising.{rising-head, rising-tail}
 
@@ -133,10 +130,6 @@ numbers-stored before (n ∷ numbers) h =
     ap (numbers_after before) (bytes_after-cons before n numbers)
     ∙ numbers_after-cons before n (bytes_after n numbers) (All-head (λ m. before ≤ m) n numbers h.from) (All-head (λ m. m < 2 ^ 32) n numbers h.bound)
     ∙ ap (λ ns. n ∷ ns) (numbers-stored n numbers (rise-tail before n numbers h))
-
--- at most one set is stored in given bytes
-pub stored_bytes-one : (xs ys : List ℕ) → Rise 0 xs → Rise 0 ys → stored_bytes xs ≡ stored_bytes ys → xs ≡ ys
-stored_bytes-one xs ys left right same = sym (numbers-stored 0 xs left) ∙ ap (numbers_after 0) same ∙ numbers-stored 0 ys right
 
 pub rise_spelled : (before : ℕ) (bytes : List ℕ) → IsSpelled before bytes → Rise before (numbers_after before bytes)
 rise_spelled before bytes h = record { rising = h.rising; from = h.from; bound = h.bound }
@@ -282,9 +275,6 @@ pub record Pushing (old : List ℕ) (old_capacity gap : ℕ) (new : List ℕ) (c
 pub pushing_begins : (old : List ℕ) (capacity gap : ℕ) → gap < 2 ^ 32 → length old + 5 ≤ capacity → Pushing old capacity gap old capacity gap
 pushing_begins old capacity gap small room = record { more = 4; small = below_limit gap small; items = refl; capacity_is = refl; room = omega arith }
 
-pub pushing_room : {old new : List ℕ} {c gap capacity left : ℕ} → Pushing old c gap new capacity left → length new + 1 ≤ capacity
-pushing_room h = omega (arith, h.room)
-
 pub pushing_more : (old new : List ℕ) (c gap capacity left b : ℕ) → Pushing old c gap new capacity left → 128 ≤ left → b ≡ left % 128 + 128
     → Pushing old c gap (new ++ b ∷ []) capacity (left / 128)
 pushing_more old new c gap capacity left b h high is = by h.more refl
@@ -390,27 +380,6 @@ writing_ends old from gap new place left h low within = (bytes, place_is)
           h.written_len,
           length-take-le from old within,
         )
-
--- the bytes after the written ones are moved up to them
-pub moved : (old mid new : List ℕ) (from to end gap : ℕ) → mid ≡ take from old ++ (bytes_of gap ++ drop end old)
-    → end ≡ from + length (bytes_of gap) → end ≤ to → to ≤ length old → length mid ≡ length old
-    → new ≡ paste mid end (drop to mid) (length mid - to)
-    → take (end + (length old - to)) new ≡ take from old ++ (bytes_of gap ++ drop to old)
-moved old mid new from to end gap mid_is end_is before within len new_is =
-    let count : length (take from old ++ bytes_of gap) ≡ end =
-    omega (arith, length-append (take from old) (bytes_of gap), length-take-le from old (omega arith)) in
-    let is : mid ≡ (take from old ++ bytes_of gap) ++ drop end old = mid_is ∙ sym (append_assoc (take from old) (bytes_of gap) (drop end old)) in
-    let front : take end mid ≡ take from old ++ bytes_of gap =
-    ap (take end) is ∙ ap (λ n. take n ((take from old ++ bytes_of gap) ++ drop end old)) (sym count)
-    ∙ take-append_seam (take from old ++ bytes_of gap) (drop end old) in
-    let rest : drop to mid ≡ drop to old = ap (drop to) is ∙ drop-append-drop end old (take from old ++ bytes_of gap) to before count in
-    let left : length (drop to mid) ≡ length mid - to = length-drop to mid in
-    ap (λ n. take (end + n) new) (ap (λ n. n - to) (sym len))
-    ∙ ap (take (end + (length mid - to))) new_is
-    ∙ take-paste mid end (drop to mid) (length mid - to) (omega arith) (omega (arith, left))
-    ∙ ap (λ xs. take end mid ++ xs) (take_all (length mid - to) (drop to mid) (omega (arith, left)))
-    ∙ ap (λ xs. xs ++ drop to mid) front ∙ ap (λ xs. (take from old ++ bytes_of gap) ++ xs) rest
-    ∙ append_assoc (take from old) (bytes_of gap) (drop to old)
 
 -- reading the first number: no bytes, or a number of one group
 one_head : (x y : ℕ) (xs ys : List ℕ) → x ∷ xs ≡ y ∷ ys → (x ≡ y) × (xs ≡ ys)

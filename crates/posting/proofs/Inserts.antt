@@ -1,6 +1,6 @@
 -- A number put among stored ones.
 use Rattle.std.proofs.Common.{◌≡◌, ◌≢◌, ℕ, zero, suc, ◌+◌, ◌-◌, ◌/◌, ◌%◌, ◌^◌, ◌<◌, ◌≤◌, Bool, true, false, ◌||◌, ◌==◌, List, [], ◌∷◌, ◌++◌, length, take, drop}
-use Rattle.std.proofs.Common.{refl, sym, ap, ◌∙◌, arith, append_assoc, append-nil, length-append, length-drop}
+use Rattle.std.proofs.Common.{refl, sym, ap, ◌∙◌, subst, arith, append_assoc, append-nil, length-append, length-drop}
 use Rattle.std.specs.Prelude.{All, insert, Result, Ok, Err, OnOk, IsOk}
 use Rattle.std.proofs.lemmas.Bool.{false≢true}
 use Rattle.std.proofs.lemmas.Bool.Decides.{nat_tests}
@@ -100,10 +100,10 @@ module _ (bytes : List ℕ) (number at : ℕ) (rest : List ℕ) (h : IsPassed 0 
       rw (h.numbers ∙ ap (λ xs. h.passed ++ numbers_after at xs) none ∙ ap (λ ns. h.passed ++ ns) (numbers_after-nil at) ∙ append-nil h.passed)
       h.below
 
-  pub place_order : at ≤ number
+  place_order : at ≤ number
   place_order = rw h.ends (last_fits 0 number h.passed (omega arith) h.below)
 
-  pub place_above : (next : ℕ) (after : List ℕ) → IsFirstNumber at rest next after → All (λ n. number ≤ n) (numbers_after at rest)
+  place_above : (next : ℕ) (after : List ℕ) → IsFirstNumber at rest next after → All (λ n. number ≤ n) (numbers_after at rest)
       → has (numbers_after 0 bytes) number ≡ false → number < next
   place_above next after first from absent =
       let least : number ≤ next = All-head (λ n. number ≤ n) next (numbers_after next after) (rw first.numbers at from) in
@@ -128,26 +128,52 @@ has_between false true false = refl
 has_between false false true = refl
 has_between false false false = refl
 
-module _ (bytes : List ℕ) (number at : ℕ) (rest : List ℕ) (next : ℕ) (after : List ℕ) (stored : IsSpelled 0 bytes)
-    (h : IsPassed 0 bytes number at rest) (first : IsFirstNumber at rest next after) (order : at ≤ number) (above : number < next)
-    (from to : ℕ) (from_is : from ≡ length bytes - length rest) (to_is : to ≡ length bytes - length after) where
+-- The next stored number comes after the one to be put in. The bytes are held twice, once as they were read.
+pub record IsSplit (held bytes : List ℕ) (number at : ℕ) (rest : List ℕ) (next : ℕ) (after : List ℕ) : Type 0 where
+  pub same : held ≡ bytes
+  pub stored : IsSpelled 0 bytes
+  pub passed : IsPassed 0 bytes number at rest
+  pub first : IsFirstNumber at rest next after
+  pub order : at ≤ number
+  pub above : number < next
+
+pub split_of : {held bytes rest after : List ℕ} {number at next : ℕ} → held ≡ bytes → IsSpelled 0 bytes → IsPassed 0 held number at rest
+    → All (λ n. number ≤ n) (numbers_after at rest) → IsFirstNumber at rest next after → has (numbers_after 0 bytes) number ≡ false
+    → IsSplit held bytes number at rest next after
+split_of {held} {bytes} {rest} {after} {number} {at} {next} same stored passed from first absent =
+    let here : IsPassed 0 bytes number at rest = subst (λ xs. IsPassed 0 xs number at rest) same passed in record {
+      same = same;
+      stored = stored;
+      passed = here;
+      first = first;
+      order = place_order bytes number at rest here;
+      above = place_above bytes number at rest here next after first from absent;
+    }
+
+module _ {held bytes : List ℕ} {number at : ℕ} {rest : List ℕ} {next : ℕ} {after : List ℕ} (s : IsSplit held bytes number at rest next after) where
+  abbrev from : ℕ
+  from = length held - length rest
+
+  abbrev to : ℕ
+  to = length held - length after
+
   abbrev front : List ℕ
-  front = bytes_after 0 h.passed
+  front = bytes_after 0 s.passed.passed
 
   abbrev later : List ℕ
   later = numbers_after next after
 
-  numbers_are : numbers_after 0 bytes ≡ h.passed ++ next ∷ later
-  numbers_are = h.numbers ∙ ap (λ ns. h.passed ++ ns) first.numbers
+  numbers_are : numbers_after 0 bytes ≡ s.passed.passed ++ next ∷ later
+  numbers_are = s.passed.numbers ∙ ap (λ ns. s.passed.passed ++ ns) s.first.numbers
 
   before : (take from bytes ≡ front) × (drop from bytes ≡ rest) × (from ≡ length front)
-  before = cut_at bytes front rest from h.stored from_is
+  before = cut_at bytes front rest from s.passed.stored (ap (λ xs. length xs - length rest) s.same)
 
   whole : bytes ≡ (front ++ bytes_of (next - at)) ++ after
-  whole = h.stored ∙ ap (λ xs. front ++ xs) first.stored ∙ sym (append_assoc front (bytes_of (next - at)) after)
+  whole = s.passed.stored ∙ ap (λ xs. front ++ xs) s.first.stored ∙ sym (append_assoc front (bytes_of (next - at)) after)
 
   behind : (take to bytes ≡ front ++ bytes_of (next - at)) × (drop to bytes ≡ after) × (to ≡ length (front ++ bytes_of (next - at)))
-  behind = cut_at bytes (front ++ bytes_of (next - at)) after to whole to_is
+  behind = cut_at bytes (front ++ bytes_of (next - at)) after to whole (ap (λ xs. length xs - length after) s.same)
 
   pub split_fits : from + length (bytes_of (next - number)) ≤ to
   split_fits =
@@ -156,7 +182,7 @@ module _ (bytes : List ℕ) (number at : ℕ) (rest : List ℕ) (next : ℕ) (af
         before.2,
         behind.2,
         length-append front (bytes_of (next - at)),
-        groups-lower 4 (next - number) (next - at) (omega (arith, order)),
+        groups-lower 4 (next - number) (next - at) (omega (arith, s.order)),
       )
 
   module _ (mid : List ℕ) (mid_is : mid ≡ take from bytes ++ (bytes_of (next - number) ++ drop to bytes)) where
@@ -170,7 +196,7 @@ module _ (bytes : List ℕ) (number at : ℕ) (rest : List ℕ) (next : ℕ) (af
 
     module _ (new : List ℕ) (new_is : new ≡ take from mid ++ (bytes_of (number - at) ++ drop from mid)) (small : number < 2 ^ 32) where
       abbrev grown : List ℕ
-      grown = h.passed ++ number ∷ next ∷ later
+      grown = s.passed.passed ++ number ∷ next ∷ later
 
       new_bytes : new ≡ bytes_after 0 grown
       new_bytes =
@@ -180,22 +206,22 @@ module _ (bytes : List ℕ) (number at : ℕ) (rest : List ℕ) (next : ℕ) (af
           ∙ ap (λ xs. xs ++ (bytes_of (number - at) ++ drop (length front) (front ++ (bytes_of (next - number) ++ after))))
           (take-append_seam front (bytes_of (next - number) ++ after))
           ∙ ap (λ xs. front ++ (bytes_of (number - at) ++ xs)) (drop-append_seam front (bytes_of (next - number) ++ after))
-          ∙ ap (λ xs. front ++ (bytes_of (number - at) ++ (bytes_of (next - number) ++ xs))) first.spelled.spelled
+          ∙ ap (λ xs. front ++ (bytes_of (number - at) ++ (bytes_of (next - number) ++ xs))) s.first.spelled.spelled
           ∙ ap (λ xs. front ++ (bytes_of (number - at) ++ xs)) (sym (bytes_after-cons number next later))
           ∙ ap (λ xs. front ++ xs) (sym (bytes_after-cons at number (next ∷ later)))
-          ∙ ap (λ l. front ++ bytes_after l (number ∷ next ∷ later)) h.ends
-          ∙ sym (bytes_after-append 0 h.passed (number ∷ next ∷ later))
+          ∙ ap (λ l. front ++ bytes_after l (number ∷ next ∷ later)) s.passed.ends
+          ∙ sym (bytes_after-append 0 s.passed.passed (number ∷ next ∷ later))
 
-      rise : Rise 0 (h.passed ++ next ∷ later)
-      rise = rw numbers_are at (rise_spelled 0 bytes stored)
+      rise : Rise 0 (s.passed.passed ++ next ∷ later)
+      rise = rw numbers_are at (rise_spelled 0 bytes s.stored)
 
       grown_rise : Rise 0 grown
       grown_rise = record {
-        rising = rising-insert h.passed number next later rise.rising h.below above;
+        rising = rising-insert s.passed.passed number next later rise.rising s.passed.below s.above;
         from = λ k d inside. omega arith;
         bound =
-            All-append (λ n. n < 2 ^ 32) h.passed (number ∷ next ∷ later) (All-left (λ n. n < 2 ^ 32) h.passed (next ∷ later) rise.bound)
-            (All-cons (λ n. n < 2 ^ 32) number (next ∷ later) small (All-right (λ n. n < 2 ^ 32) h.passed (next ∷ later) rise.bound));
+            All-append (λ n. n < 2 ^ 32) s.passed.passed (number ∷ next ∷ later) (All-left (λ n. n < 2 ^ 32) s.passed.passed (next ∷ later) rise.bound)
+            (All-cons (λ n. n < 2 ^ 32) number (next ∷ later) small (All-right (λ n. n < 2 ^ 32) s.passed.passed (next ∷ later) rise.bound));
       }
 
       new_numbers : numbers_after 0 new ≡ grown
@@ -205,13 +231,13 @@ module _ (bytes : List ℕ) (number at : ℕ) (rest : List ℕ) (next : ℕ) (af
       split_stored last ends = record {
         spelled = spelled_bytes 0 new grown new_bytes grown_rise;
         ends =
-            ends ∙ ap (last_of 0) numbers_are ∙ last_of-append 0 h.passed (next ∷ later) ∙ last_of-cons (last_of 0 h.passed) next later
-            ∙ sym (ap (last_of 0) new_numbers ∙ last_of-append 0 h.passed (number ∷ next ∷ later)
-            ∙ last_of-cons (last_of 0 h.passed) number (next ∷ later) ∙ last_of-cons number next later);
+            ends ∙ ap (last_of 0) numbers_are ∙ last_of-append 0 s.passed.passed (next ∷ later) ∙ last_of-cons (last_of 0 s.passed.passed) next later
+            ∙ sym (ap (last_of 0) new_numbers ∙ last_of-append 0 s.passed.passed (number ∷ next ∷ later)
+            ∙ last_of-cons (last_of 0 s.passed.passed) number (next ∷ later) ∙ last_of-cons number next later);
       }
 
       pub split_members : (n : ℕ) → has (numbers_after 0 new) n ≡ (has (numbers_after 0 bytes) n || number == n)
       split_members n =
-          ap (λ ns. has ns n) new_numbers ∙ has-append h.passed (number ∷ next ∷ later) n
-          ∙ has_between (has h.passed n) (number == n) (has (next ∷ later) n)
-          ∙ ap (λ b. b || number == n) (sym (ap (λ ns. has ns n) numbers_are ∙ has-append h.passed (next ∷ later) n))
+          ap (λ ns. has ns n) new_numbers ∙ has-append s.passed.passed (number ∷ next ∷ later) n
+          ∙ has_between (has s.passed.passed n) (number == n) (has (next ∷ later) n)
+          ∙ ap (λ b. b || number == n) (sym (ap (λ ns. has ns n) numbers_are ∙ has-append s.passed.passed (next ∷ later) n))

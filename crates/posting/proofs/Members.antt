@@ -1,8 +1,7 @@
 -- Which numbers are in a list.
-use Rattle.std.proofs.Common.{◌≡◌, ◌≢◌, ℕ, zero, suc, ◌<◌, ◌≤◌, Bool, true, false, not, ◌==◌, ◌⊎◌, inl, inr, List, [], ◌∷◌, length, get_or}
+use Rattle.std.proofs.Common.{◌≡◌, ◌≢◌, ℕ, zero, ◌<◌, ◌≤◌, Bool, true, false, not, ◌==◌, ◌⊎◌, inl, inr, List, [], ◌∷◌, length, get_or}
 use Rattle.std.proofs.Common.{refl, sym, ap, ◌∙◌, arith, Result, Ok, Err, MatchResult, is_ok}
 use Rattle.std.specs.Prelude.{All, filter}
-use Rattle.std.specs.List.{remove}
 use Rattle.std.specs.List.Sorted.{IsStrictlyIncreasing, IsBinarySearchResult}
 use Rattle.std.specs.Ordering.{nat_cmp}
 use Rattle.std.proofs.lemmas.List.Sorted.{searched}
@@ -11,7 +10,7 @@ use Rattle.std.proofs.lemmas.Bool.Decides.{nat_tests}
 use Rattle.std.proofs.lemmas.List.Folds.{list_any_at, list_any_none}
 use Rattle.std.proofs.lemmas.List.Elements.{All-cons, All-head, All-tail, All-weaker, All-from_get_or}
 use Rattle.posting.specs.ListValue.{has, without}
-use Rattle.posting.proofs.Rising.{rising-head, rising-tail, rising_far, rises_at}
+use Rattle.posting.proofs.Rising.{rising-head, rising-tail, rises_at}
 
 pub has_at : (xs : List ℕ) (i n : ℕ) → i < length xs → get_or xs i 0 ≡ n → has xs n ≡ true
 has_at xs i n inside is = list_any_at (λ m. m == n) xs i 0 inside (eq-eqb (get_or xs i 0) n is)
@@ -57,18 +56,6 @@ filter_none p (x ∷ xs) h = rw (All-head (λ m. p m ≡ false) x xs h) (filter_
 
 pub without_absent : (xs : List ℕ) (n : ℕ) → All (λ m. m ≢ n) xs → without n xs ≡ xs
 without_absent xs n h = filter_all (λ m. not (m == n)) xs (All-weaker (λ m. m ≢ n) (λ m. not (m == n) ≡ true) (λ m ne. grind (arith, nat_tests)) xs h)
-
--- the number at a place of rising numbers, taken out
-pub without-found : (xs : List ℕ) (n i : ℕ) → IsStrictlyIncreasing xs → i < length xs → get_or xs i 0 ≡ n → remove xs i ≡ without n xs
-without-found [] n i rising inside is = absurd (omega arith)
-without-found (x ∷ xs) n zero rising inside is =
-    let same : (x == n) ≡ true = eq-eqb x n is in
-    rw same (sym (without_absent xs n (All-weaker (λ m. x < m) (λ m. m ≢ n) (λ m lt e. omega arith) xs (rising-head x xs rising))))
-without-found (x ∷ xs) n (suc i) rising inside is =
-    let within : i < length xs = omega arith in
-    let before : x < n = rw is at (rising_far (x ∷ xs) rising zero (suc i) (omega arith) inside) in
-    let other : (x == n) ≡ false = grind (arith, nat_tests) in
-    rw other (ap (λ ys. x ∷ ys) (without-found xs n i (rising-tail x xs rising) within is))
 
 -- Rising lists with the same numbers are the same.
 pub same_rising : (xs ys : List ℕ) → IsStrictlyIncreasing xs → IsStrictlyIncreasing ys → ((n : ℕ) → has xs n ≡ has ys n) → xs ≡ ys

@@ -2,7 +2,7 @@
 use Rattle.std.proofs.Common.{◌≡◌, ◌≢◌, ℕ, zero, suc, ◌+◌, ◌-◌, ◌*◌, ◌^◌, ◌/◌, ◌%◌, ◌<◌, ◌≤◌, Bool, true, false, cond, ◌==◌, nat_lt, ◌&&◌, List, [], ◌∷◌, ◌++◌, ◌⊎◌, inl, inr}
 use Rattle.std.proofs.Common.{length, get_or, set, drop, replicate, Option, Some, None, Result, Ok, Err, OnErr, OnOk, refl, sym, ap, ◌∙◌, arith, length-append}
 use Rattle.std.specs.List.{sum_by, slice_range, list_all}
-use Rattle.std.proofs.lemmas.Bool.{cases_eq, false≢true}
+use Rattle.std.proofs.lemmas.Bool.{cases_eq, and_parts}
 use Rattle.std.proofs.lemmas.Bool.Decides.{nat_tests}
 use Rattle.std.proofs.lemmas.List.{get_or-set_same, get_or-set_other, get_or_append_left, get_or-append-add, get_or-take, get_or-drop, get_or_past, length-set}
 use Rattle.std.proofs.lemmas.List.Elements.{All-from_get_or}
@@ -313,18 +313,10 @@ copies_page from old new page content there added = record {
     limits : (t : ℕ) → t / page_size ≢ page → cond (t / page_size == page) slot_limit (free_limit old t) ≡ free_limit old t
     limits t ne = let e : (t / page_size == page) ≡ false = grind (arith, nat_tests) in rw e refl
 
-and_left : (a b : Bool) → (a && b) ≡ true → a ≡ true
-and_left true b e = refl
-and_left false b e = e
-
-and_right : (a b : Bool) → (a && b) ≡ true → b ≡ true
-and_right true b e = e
-and_right false b e = absurd (false≢true e)
-
 pub free_code : (content : List ℕ) (at : ℕ) → list_all (λ code. code == 0) content ≡ true → get_or content at 0 ≡ 0
 free_code [] at e = refl
-free_code (c ∷ content) zero e = let is = and_left (c == 0) (list_all (λ code. code == 0) content) e in grind (arith, nat_tests)
-free_code (c ∷ content) (suc at) e = free_code content at (and_right (c == 0) (list_all (λ code. code == 0) content) e)
+free_code (c ∷ content) zero e = let is = (and_parts (c == 0) (list_all (λ code. code == 0) content) e).0 in grind (arith, nat_tests)
+free_code (c ∷ content) (suc at) e = free_code content at (and_parts (c == 0) (list_all (λ code. code == 0) content) e).1
 
 get_or-zeros : (n i : ℕ) → ◌≡◌ {A = ℕ} (get_or (replicate n 0) i 0) 0
 get_or-zeros zero i = refl

@@ -1,5 +1,5 @@
 -- The numbers whose trigrams meet a query.
-use Rattle.std.proofs.Common.{◌≡◌, ℕ, zero, suc, ◌+◌, ◌<◌, ◌≤◌, Bool, true, false, ◌&&◌, ◌||◌, ◌==◌, List, [], ◌∷◌, ◌++◌, length, get_or}
+use Rattle.std.proofs.Common.{◌≡◌, ℕ, zero, suc, ◌+◌, ◌<◌, ◌≤◌, Bool, true, false, ◌&&◌, ◌||◌, ◌==◌, List, [], ◌∷◌, length, get_or}
 use Rattle.std.proofs.Common.{take, map, refl, sym, ap, ◌∙◌, Option, Some, None}
 use Rattle.std.specs.Prelude.{filter, slice_get}
 use Rattle.std.specs.List.{list_all, list_any}
@@ -8,9 +8,10 @@ use Rattle.std.specs.declared.vec.Vec.{Vec}
 use Rattle.std.proofs.lemmas.Bool.{false≢true, eq-eqb}
 use Rattle.std.proofs.lemmas.List.{take_all}
 use Rattle.std.proofs.lemmas.List.Elements.{filter_agree}
-use Rattle.std.proofs.lemmas.List.Folds.{list_all_more, list_any_more, list_any-append}
-use Rattle.std.proofs.lemmas.Option.{slice_get-get_or, slice_get_read, slice_get_past}
+use Rattle.std.proofs.lemmas.List.Folds.{list_all_more}
+use Rattle.std.proofs.lemmas.Option.{slice_get-get_or}
 use Rattle.std.specs.declared.boxed.Box.{Box}
+use Rattle.std.proofs.Math.Bool.{and-false, or-true}
 use Rattle.query.specs.declared.pairs.Pairs.{Pairs}
 use Rattle.query.specs.Trigrams.{TrigramSet, has_all_trigrams}
 use Rattle.query.specs.Texts.{Texts, texts_of, has_all_of_one}
@@ -22,12 +23,8 @@ use Rattle.query.proofs.Forms.{formula_of-Any, formula_of-None, formula_of-Has, 
 use Rattle.posting.specs.ListValue.{ListValue, has}
 use Rattle.posting.specs.Postings.{NumberSet, set_of, trigrams_with, selected}
 use Rattle.posting.specs.Private.Selection.{Finds}
-use Rattle.posting.proofs.SetLemmas.{has-filter, or-false}
+use Rattle.posting.proofs.SetLemmas.{has-filter}
 use Rattle.posting.proofs.Members.{filter_all}
-
--- the numbers of a list for which the set of their trigrams passes a test
-abbrev pub chosen_by : (TrigramSet → Bool) → List NumberSet → List ℕ → List ℕ
-chosen_by test table numbers = filter (λ n. test (trigrams_with table n)) numbers
 
 pub met-Any : (set : TrigramSet) → is_met (formula_of query.Any) set ≡ true
 unfolding is_met
@@ -65,14 +62,10 @@ unfolding is_met is_one_met
 one_met-list [] set = refl
 one_met-list (q ∷ members) set = ap (λ b. meets set q || b) (one_met-list members set)
 
-or_true : (a : Bool) → (a || true) ≡ true
-or_true true = refl
-or_true false = refl
-
 -- where two tests agree on the numbers of a list
 pub filter_agree_in : (p q : ℕ → Bool) (xs : List ℕ) → ((n : ℕ) → has xs n ≡ true → p n ≡ q n) → filter p xs ≡ filter q xs
 filter_agree_in p q [] agree = refl
-filter_agree_in p q (x ∷ xs) agree = cases (p x) (q x) refl refl (filter_agree_in p q xs (λ n there. agree n (rw there (or_true (x == n)))))
+filter_agree_in p q (x ∷ xs) agree = cases (p x) (q x) refl refl (filter_agree_in p q xs (λ n there. agree n (rw there (or-true (x == n)))))
   where
     here : has (x ∷ xs) x ≡ true
     here = rw (eq-eqb x x refl) refl
@@ -125,26 +118,9 @@ some_pass test members first i = first_passes test (slice_get members first) && 
 abbrev pub Narrowed : {X : Type 0} → (ℕ → X → Bool) → List X → ℕ → ℕ → List ℕ → List ℕ → Type 0
 Narrowed test members first i given found = (n : ℕ) → has given n ≡ true → has found n ≡ some_pass (test n) members first i
 
-and_true : (a : Bool) → a ≡ (a && true)
-and_true true = refl
-and_true false = refl
-
 and_assoc : (a b c : Bool) → ((a && b) && c) ≡ (a && (b && c))
 and_assoc true b c = refl
 and_assoc false b c = refl
-
-pub narrowed_from_first : {X : Type 0} (test : ℕ → X → Bool) (members : List X) (first : ℕ) (member : X) (given found : List ℕ)
-    → first < length members → member ≡ get_or members first member
-    → ((n : ℕ) → has given n ≡ true → has found n ≡ test n member) → Narrowed test members first 0 given found
-narrowed_from_first test members first member given found inside is h n there =
-    h n there ∙ ap (first_passes (test n)) (sym (slice_get_read members (length members) first member refl inside is))
-    ∙ and_true (first_passes (test n) (slice_get members first))
-
-pub narrowed_from_all : {X : Type 0} (test : ℕ → X → Bool) (members : List X) (first : ℕ) (given found : List ℕ) → length members ≤ first
-    → found ≡ given → Narrowed test members first 0 given found
-narrowed_from_all test members first given found past same n there =
-    ap (λ ns. has ns n) same ∙ there ∙ ap (first_passes (test n)) (sym (slice_get_past members first past))
-    ∙ and_true (first_passes (test n) (slice_get members first))
 
 pub narrowed_more : {X : Type 0} (test : ℕ → X → Bool) (members : List X) (first i : ℕ) (member : X) (given found fewer : List ℕ)
     → i < length members → member ≡ get_or members i member → Narrowed test members first i given found
@@ -177,16 +153,12 @@ implied : (a b : Bool) → (a ≡ false → b ≡ false) → (a && b) ≡ b
 implied true b h = refl
 implied false b h = sym (h refl)
 
-and_false : (a : Bool) → (a && false) ≡ false
-and_false true = refl
-and_false false = refl
-
 -- if the first member does not pass, not all do
 first_of_all : {X : Type 0} (test : X → Bool) (members : List X) (first : ℕ) → first_passes test (slice_get members first) ≡ false
     → list_all test members ≡ false
 first_of_all test [] first fails = absurd (false≢true (sym fails))
 first_of_all test (q ∷ members) zero fails = rw fails refl
-first_of_all test (q ∷ members) (suc first) fails = rw (first_of_all test members first fails) (and_false (test q))
+first_of_all test (q ∷ members) (suc first) fails = rw (first_of_all test members first fails) (and-false (test q))
 
 -- nor if those before place i do not all pass
 some_of_all : {X : Type 0} (test : X → Bool) (members : List X) (i : ℕ) → list_all test (take i members) ≡ false → list_all test members ≡ false
@@ -225,16 +197,6 @@ narrowed_to_none test members first i given found none h n there =
 abbrev pub Joined : {X : Type 0} → (ℕ → X → Bool) → List X → ℕ → List ℕ → List ListValue → Type 0
 Joined test members i given lists =
     (n : ℕ) → has given n ≡ true → list_any (λ list. has list.members n) lists ≡ list_any (test n) (take i members)
-
-pub joined_more : {X : Type 0} (test : ℕ → X → Bool) (members : List X) (i : ℕ) (member : X) (given : List ℕ) (lists : List ListValue)
-    (next : ListValue) → i < length members → member ≡ get_or members i member → Joined test members i given lists
-    → ((n : ℕ) → has given n ≡ true → has next.members n ≡ test n member) → Joined test members (i + 1) given (lists ++ next ∷ [])
-joined_more test members i member given lists next inside is h found n there =
-    list_any-append (λ list. has list.members n) lists (next ∷ [])
-    ∙ ap (λ b. list_any (λ list. has list.members n) lists || b) (or-false (has next.members n))
-    ∙ ap (λ b. b || has next.members n) (h n there)
-    ∙ ap (λ b. list_any (test n) (take i members) || b) (found n there ∙ ap (test n) is)
-    ∙ sym (list_any_more (test n) members i member inside)
 
 pub joined_ends : {X : Type 0} (test : ℕ → X → Bool) (members : List X) (i : ℕ) (given found : List ℕ) (lists : List ListValue)
     → length members ≤ i → Joined test members i given lists → ((n : ℕ) → has found n ≡ list_any (λ list. has list.members n) lists)

@@ -6,10 +6,10 @@ use Rattle.std.specs.List.{sum}
 use Rattle.std.proofs.Common.{subst, get_or, ◌⊎◌, inl, inr}
 use Rattle.std.proofs.lemmas.List.Sums.{sum_by_more, sum_by-append}
 use Rattle.std.proofs.lemmas.List.Elements.{All-from_get_or}
-use Rattle.std.proofs.lemmas.List.{get_or-take, length-take-le}
+use Rattle.std.proofs.lemmas.List.{get_or-take, length-take-le, nil_from_length}
 use Rattle.std.specs.List.Sorted.{IsStrictlyIncreasing}
 use Rattle.std.proofs.lemmas.Bool.Decides.{nat_tests}
-use Rattle.std.proofs.lemmas.Bool.{eq-eqb, cases_eq}
+use Rattle.std.proofs.lemmas.Bool.{eq-eqb, cases_eq, eqb-true}
 use Rattle.std.proofs.lemmas.List.{append-nil, take_all, drop_all, take-append-drop}
 use Rattle.std.proofs.lemmas.List.Elements.{All-nil, All-cons, All-head, All-tail, All-weaker, All-append, All-filter, filter-append}
 use Rattle.std.proofs.lemmas.List.Kept.{IsStrictlyIncreasing-filter}
@@ -369,15 +369,12 @@ pub nothing_left : (before : ℕ) (rest : List ℕ) → length rest ≡ 0 → nu
 nothing_left before [] none = numbers_after-nil before
 nothing_left before (b ∷ rest) none = absurd (omega (arith, none))
 
-no_bytes : (n : ℕ) → (n == 0) ≡ true → n ≡ 0
-no_bytes n t = grind (arith, nat_tests)
-
 pub empty_if_none : (bytes : List ℕ) → IsSpelled 0 bytes
     → (IsTrue (length bytes == 0) → numbers_after 0 bytes ≡ []) × (numbers_after 0 bytes ≡ [] → IsTrue (length bytes == 0))
 empty_if_none [] h = (λ _. numbers_after-nil 0, λ _. refl)
 empty_if_none (b ∷ bytes) h = (
   λ t.
-      absurd (omega (arith, no_bytes (length (b ∷ bytes)) t)),
+      absurd (omega (arith, eqb-true (length (b ∷ bytes)) 0 t)),
   λ e. absurd (omega (arith, some_numbers (b ∷ bytes) h (omega arith), ap length e)),
 )
 
@@ -400,13 +397,8 @@ left_as_is before rest number next after first from differs =
     least_is number next (numbers_after before rest) from (least_first before rest next after first) ∙ grind (arith, nat_tests) in
     sym (without-lacking (numbers_after before rest) number absent)
 
--- no bytes are left
-pub empty_is : (rest : List ℕ) → length rest ≡ 0 → rest ≡ []
-empty_is [] none = refl
-empty_is (b ∷ rest) none = absurd (omega (arith, none))
-
 pub next_end : (number at : ℕ) (rest : List ℕ) → length rest ≡ 0 → All (λ n. number ≤ n) (numbers_after at rest)
-next_end number at rest none = next_none number at rest (empty_is rest none)
+next_end number at rest none = next_none number at rest (nil_from_length rest none)
 
 -- whether a number is reached is whether it was there
 pub reached : (before : ℕ) (bytes : List ℕ) (number at : ℕ) (rest : List ℕ) (least : ℕ) → IsPassed before bytes number at rest

@@ -6,9 +6,9 @@
 mod disk;
 mod error;
 mod files;
-mod input;
 mod laws;
 mod output;
+mod read;
 mod response;
 mod session;
 

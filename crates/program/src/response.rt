@@ -7,8 +7,8 @@ ghost use Rattle.program.specs.Response.{EndsRun, IsFailure, IsResponse, IsRunOf
 use crate::disk::Disk;
 use crate::error::ProgramError;
 use crate::files::FileSource;
-use crate::input::read_script;
 use crate::output::{show, write_text};
+use crate::read::read_script;
 use crate::session::serve_session;
 use cli::{HELP, Request, Settings, VERSION, read_arguments};
 use std::alloc::Global;

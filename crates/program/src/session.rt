@@ -9,7 +9,7 @@ ghost use Rattle.program.specs.Reads.{IsLoadFrom};
 use crate::disk::Disk;
 use crate::error::ProgramError;
 use crate::files::FileSource;
-use crate::input::{Noted, fault_of_script};
+use crate::read::{Noted, fault_of_script};
 use crate::response::Open;
 use cli::Settings;
 use live::{LiveError, LiveOptions, serve};

@@ -180,10 +180,6 @@ pub record IsTakingIn (k : Connective) (old further new rest : List Formula) : T
       → joined k (are_met k (formulas_of new) set) (are_met k (formulas_of rest) set)
       ≡ joined k (are_met k (formulas_of old) set) (are_met k (formulas_of further) set)
 
-pub IsTakingIn-none : (k : Connective) (old further : List Formula) → AreReducedParts (is_of k) (formulas_of old)
-    → AreReducedParts (is_of k) (formulas_of further) → IsTakingIn k old further old further
-IsTakingIn-none k old further p q = record { parts = p; rest_parts = q; longer = omega arith; met = λ set. refl }
-
 pub IsTakingIn-step : (k : Connective) (old further new newer rest : List Formula) (f : Formula) → IsTakingIn k old further new (f ∷ rest)
     → HasTakenIn k new (f ∷ []) newer → IsTakingIn k old further newer rest
 unfolding AreReducedParts
@@ -245,13 +241,6 @@ stands_already (g ∷ fs) zero f below is set =
     ∙ absorbs (is_met g set) (are_all_met (formulas_of fs) set)
 stands_already (g ∷ fs) (suc i) f below is set =
     keeps (is_met g set) (are_all_met (formulas_of fs) set) (is_met f set) (stands_already fs i f (omega arith) is set)
-
-pub join_compound : (k : Connective) (left right whole : Formula) (old further new : List Formula) → AreMembersOf k left old
-    → AreMembersOf k right further → HasTakenIn k old further new → IsCompound k new whole → IsJoin k left right whole
-join_compound k left right whole old further new l r taken c = record {
-  plain = c.plain;
-  met = λ set. c.met set ∙ taken.met set ∙ ap (λ b. joined k b (are_met k (formulas_of further) set)) (l.met set) ∙ ap (joined k (is_met left set)) (r.met set);
-}
 
 pub join_idle_left : (k : Connective) (left right : Formula) (b : Bool) → Some b ≡ constant_of left → b ≡ idle k → IsPlain right → IsJoin k left right right
 join_idle_left k left right b e is plain = record {

@@ -1,5 +1,5 @@
 -- Queries for texts.
-use Rattle.std.proofs.Common.{◌≡◌, ℕ, zero, suc, ◌+◌, ◌<◌, ◌≤◌, Bool, true, false, ◌&&◌, ◌||◌, List, [], ◌∷◌, ◌++◌, length, map, drop, get_or}
+use Rattle.std.proofs.Common.{◌≡◌, ℕ, zero, suc, ◌+◌, ◌<◌, ◌≤◌, Bool, true, ◌&&◌, ◌||◌, List, [], ◌∷◌, ◌++◌, length, map, drop, get_or}
 use Rattle.std.proofs.Common.{refl, sym, ap, ◌∙◌, arith, length-append}
 use Rattle.std.specs.List.{list_all}
 use Rattle.std.specs.declared.alloc.Global.{Global}
@@ -7,7 +7,7 @@ use Rattle.std.specs.declared.boxed.Box.{Box}
 use Rattle.std.specs.declared.vec.Vec.{Vec}
 use Rattle.std.proofs.lemmas.List.{drop_more}
 use Rattle.std.proofs.lemmas.List.Folds.{list_all-append, list_any-append}
-use Rattle.std.proofs.Math.Bool.{and_assoc}
+use Rattle.std.proofs.Math.Bool.{and_assoc, and-true, or-true}
 use Rattle.query.specs.declared.pairs.Pairs.{Pairs}
 use Rattle.query.specs.declared.query.Connective.TheVariants.{And}
 use Rattle.query.specs.declared.query.Query.TheVariants as query
@@ -38,23 +38,11 @@ IsQuerySoFar-more rest now later whole query next longer h split p j = record {
       ∙ h.met set;
 }
 
-and_true : (b : Bool) → (b && true) ≡ b
-and_true true = refl
-and_true false = refl
-
-or_false : (b : Bool) → (b || false) ≡ b
-or_false true = refl
-or_false false = refl
-
-or_true : (b : Bool) → (b || true) ≡ true
-or_true true = refl
-or_true false = refl
-
 pub IsPlainFor-all : (rest whole : TrigramSet → Bool) (query : Formula) → IsQuerySoFar rest whole query
     → ((set : TrigramSet) → rest set ≡ true) → IsPlainFor whole query
 IsPlainFor-all rest whole query h none = record {
   plain = h.plain;
-  met = λ set. sym (ap (λ b. is_met query set && b) (none set) ∙ and_true (is_met query set)) ∙ h.met set;
+  met = λ set. sym (ap (λ b. is_met query set && b) (none set) ∙ and-true (is_met query set)) ∙ h.met set;
 }
 
 pub IsPlainFor-has : (trigram : ℕ) → IsPlainFor (λ set. set trigram) (has trigram)
@@ -86,11 +74,11 @@ pub all_pushed : (set : TrigramSet) (trigrams : List ℕ) (trigram : ℕ) (rest 
     → (list_all set (trigrams ++ trigram ∷ []) && rest) ≡ (list_all set trigrams && (set trigram && rest))
 all_pushed set trigrams trigram rest =
     ap (λ b. b && rest) (list_all-append set trigrams (trigram ∷ []))
-    ∙ ap (λ b. (list_all set trigrams && b) && rest) (and_true (set trigram))
+    ∙ ap (λ b. (list_all set trigrams && b) && rest) (and-true (set trigram))
     ∙ and_assoc (list_all set trigrams) (set trigram) rest
 
 pub all_in_turn : (a b : Bool) → b ≡ true → a ≡ (a && b)
-all_in_turn a b e = sym (ap (λ c. a && c) e ∙ and_true a)
+all_in_turn a b e = sym (ap (λ c. a && c) e ∙ and-true a)
 
 -- ---- joins of two lists of texts
 
@@ -108,7 +96,7 @@ short_suffix prefix (first ∷ right) zero x below is short set =
     ∙ short_text (prefix ++ x.items) set (omega (arith, length-append prefix x.items)))
 short_suffix prefix (first ∷ right) (suc i) x below is short set =
     ap (λ b. has_all_trigrams (prefix ++ first.items) set || b) (short_suffix prefix right i x (omega arith) is short set)
-    ∙ or_true (has_all_trigrams (prefix ++ first.items) set)
+    ∙ or-true (has_all_trigrams (prefix ++ first.items) set)
 
 -- one text of the first list is followed by one with which it has no trigram
 pub short_prefix : (left : List (Vec ℕ Global)) (right : Texts) (i : ℕ) (x : Vec ℕ Global) → i < length left → x ≡ get_or left i x
@@ -122,7 +110,7 @@ short_prefix (first ∷ left) right zero x below is short set =
 short_prefix (first ∷ left) right (suc i) x below is short set =
     has_all_of_one-append (map (λ suffix. first.items ++ suffix) right) (joined_texts (texts_of left) right) set
     ∙ ap (λ b. has_all_of_one (map (λ suffix. first.items ++ suffix) right) set || b) (short_prefix left right i x (omega arith) is short set)
-    ∙ or_true (has_all_of_one (map (λ suffix. first.items ++ suffix) right) set)
+    ∙ or-true (has_all_of_one (map (λ suffix. first.items ++ suffix) right) set)
 
 no_right : (left : Texts) → joined_texts left [] ≡ []
 no_right [] = refl
@@ -143,23 +131,6 @@ plain_none_right left (suffix ∷ right) none = absurd (omega arith)
 pub plain_any : (texts : Texts) → ((set : TrigramSet) → has_all_of_one texts set ≡ true) → IsPlainFor (has_all_of_one texts) (formula_of query.Any)
 unfolding is_met
 plain_any texts all = rw formula_of-Any (record { plain = tt; met = λ set. sym (all set) })
-
-pub plain_one : (left right : List (Vec ℕ Global)) (prefix suffix : Vec ℕ Global) (text : List ℕ) (found : Formula) → length left ≡ 1
-    → length right ≡ 1 → prefix ≡ get_or left 0 prefix → suffix ≡ get_or right 0 suffix → text ≡ prefix.items ++ suffix.items
-    → IsPlainFor (has_all_trigrams text) found → IsPlainFor (has_all_of_one (joined_texts (texts_of left) (texts_of right))) found
-plain_one [] right prefix suffix text found one other p s is h = absurd (omega arith)
-plain_one (l ∷ k ∷ left) right prefix suffix text found one other p s is h = absurd (omega arith)
-plain_one (l ∷ []) [] prefix suffix text found one other p s is h = absurd (omega arith)
-plain_one (l ∷ []) (r ∷ k ∷ right) prefix suffix text found one other p s is h = absurd (omega arith)
-plain_one (l ∷ []) (r ∷ []) prefix suffix text found one other p s is h = record {
-  plain = h.plain;
-  met =
-      λ set.
-      h.met set
-      ∙ ap (λ t. has_all_trigrams t set)
-      (is ∙ ap (λ (v : Vec ℕ Global). v.items ++ suffix.items) p ∙ ap (λ (v : Vec ℕ Global). l.items ++ v.items) s)
-      ∙ sym (or_false (has_all_trigrams (l.items ++ r.items) set));
-}
 
 pub plain_pairs : (pairs : Box Pairs Global) (texts : Texts) → texts_in pairs.value ≡ texts → IsPlainFor (has_all_of_one texts) (formula_of (query.Pairs pairs))
 unfolding is_met

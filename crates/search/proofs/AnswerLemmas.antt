@@ -16,19 +16,22 @@ use Rattle.query.specs.Trigrams.{trigrams_of_body}
 use Rattle.request.specs.declared.options.View.{View}
 use Rattle.request.specs.declared.options.View.TheVariants as view
 use Rattle.search.specs.Front.{AreFronted}
-use Rattle.search.specs.Prepared.{pattern_of, request_of}
+use Rattle.prepare.specs.Prepared.{pattern_of, request_of}
 use Rattle.search.specs.Private.Gathered.{AreGathered, Gathers, HaveBodies, HaveOwnNames, Joins, shown_with, trimmed, view_of, with_limit}
-use Rattle.search.specs.Request.{Request}
-use Rattle.search.specs.Scan.{Hit, IsScanOf, can_have, candidates_of}
+use Rattle.prepare.specs.Request.{Request}
+use Rattle.views.specs.Found.{Hit}
+use Rattle.search.specs.Scan.{IsScanOf, candidates_of}
+use Rattle.prepare.specs.Queries.{can_have}
 use Rattle.search.specs.Private.Documents.{lines_of_taken}
 use Rattle.search.specs.Selects.{Selects, IsAsked, IsNamedForAll}
-use Rattle.search.specs.Tests.{test_of}
-use Rattle.search.specs.Text.{text_of_rows}
+use Rattle.prepare.specs.Tests.{test_of}
+use Rattle.views.specs.Text.{text_of_rows}
 use Rattle.search.specs.Shown.{IsShownOf}
-use Rattle.search.specs.View.{AreRows, Row, at_most, body_of, is_over, limited, total}
+use Rattle.search.specs.Rows.{AreRows, at_most, body_of, is_over, limited, total}
+use Rattle.views.specs.View.{Row}
 use Rattle.search.specs.declared.gathered.Gathered.{Gathered}
 use Rattle.search.specs.declared.gathered.Wanted.{Wanted}
-use Rattle.search.specs.declared.pattern.Prepared.{Prepared}
+use Rattle.prepare.specs.declared.pattern.Prepared.{Prepared}
 use Rattle.search.specs.declared.side_by_side.Joined.{Joined}
 use Rattle.search.proofs.CandidateLemmas.{wanted_are}
 use Rattle.search.proofs.GathersLemmas.{case-true}

@@ -1,6 +1,6 @@
 -- The candidates of a pattern, and those of them that are wanted.
 use Rattle.std.proofs.Common.{◌≡◌, ℕ, ◌≤◌, ◌&&◌, Bool, true, false, cond, List, [], ◌∷◌, map, length, refl, sym, ◌∙◌, ap, subst, arith}
-use Rattle.std.specs.Prelude.{filter, All}
+use Rattle.std.specs.Prelude.{bytes_eq, filter, All}
 use Rattle.std.proofs.lemmas.List.{length-map}
 use Rattle.std.proofs.lemmas.List.Elements.{filter_agree}
 use Rattle.query.specs.Trigrams.{TrigramSet, trigrams_of_body}
@@ -11,10 +11,11 @@ use Rattle.index.specs.Documents.{Document, meets, IsInNameOrder, is_chosen, is_
 use Rattle.index.specs.Shared.{document_of, documents_shared}
 use Rattle.index.specs.State.{State}
 use Rattle.search.specs.Front.{AreFronted}
-use Rattle.search.specs.Pattern.{Test, Passes, Pattern}
-use Rattle.search.specs.Scan.{can_have, candidates_of}
+use Rattle.prepare.specs.Pattern.{Test, Passes, Pattern}
+use Rattle.prepare.specs.Queries.{can_have}
+use Rattle.search.specs.Scan.{candidates_of}
 use Rattle.search.specs.Selects.{Selects, IsNamedForAll}
-use Rattle.index.proofs.DocumentLemmas.{filter-Contains, Contains-filter}
+use Rattle.index.proofs.DocumentLemmas.{bytes_eq-refl, filter-Contains, Contains-filter}
 use Rattle.index.proofs.StoredLemmas.{Numbered}
 use Rattle.index.proofs.OrderLemmas.{chosen_are}
 use Rattle.search.proofs.SelectsLemmas.{Selects-map, rises-Selects, Contains-kept, kept-Contains}
@@ -67,7 +68,8 @@ wanted_are s pattern taken kept fronted named =
             record { candidate = (filter-Contains (is_under fronted.front) candidates d ((order.same d).0 at.0)).0; name_hits = at.1 }
             ),
         λ w. kept-Contains d selected
-            ((order.same d).1 (Contains-filter (is_under fronted.front) candidates d w.candidate (fronted.named d.name w.name_hits))) w.name_hits,
+            ((order.same d).1 (Contains-filter (is_under fronted.front) candidates d w.candidate
+            (ap (bytes_eq fronted.front) (fronted.named d.name w.name_hits) ∙ bytes_eq-refl fronted.front))) w.name_hits,
       );
     }
 

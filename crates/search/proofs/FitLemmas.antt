@@ -4,16 +4,17 @@ use Rattle.std.specs.Prelude.{All}
 use Rattle.std.specs.List.{AllByRecursion}
 use Rattle.std.specs.List.Sorted.{IsStrictlyIncreasing}
 use Rattle.std.proofs.lemmas.List.Elements.{All-nil, All-cons}
-use Rattle.finder.proofs.Deciding.{lines-feedless}
-use Rattle.finder.proofs.LineLemmas.{NoFeed, no_feed_at}
+use Rattle.engine.proofs.Deciding.{lines-feedless}
+use Rattle.engine.proofs.LineLemmas.{NoFeed, no_feed_at}
 use Rattle.index.specs.declared.document.SharedDocument.{SharedDocument}
 use Rattle.lines.specs.Lines.{lines_of}
 use Rattle.search.specs.Private.Added.{AddsUpTo}
 use Rattle.search.specs.Private.Documents.{lines_of_taken}
 use Rattle.search.specs.Private.Seekers.{IsOneLine}
-use Rattle.search.specs.Scan.{Hit}
-use Rattle.search.specs.Selects.{Selects, done, keep, skip, numbered}
-use Rattle.search.specs.View.{limited}
+use Rattle.views.specs.Found.{Hit}
+use Rattle.search.specs.Selects.{Selects, done, keep, skip}
+use Rattle.views.specs.Found.{numbered}
+use Rattle.search.specs.Rows.{limited}
 use Rattle.search.proofs.GatherLemmas.{All-limited}
 use Rattle.search.proofs.SelectsLemmas.{All-Selects}
 use Rattle.search.proofs.ViewLemmas.{All-left}

@@ -9,15 +9,17 @@ use Rattle.index.specs.Documents.{Document}
 use Rattle.index.specs.declared.document.SharedDocument.{SharedDocument}
 use Rattle.request.specs.declared.options.View.{View}
 use Rattle.request.specs.declared.options.View.TheVariants as view
-use Rattle.search.specs.Pattern.{Test}
+use Rattle.prepare.specs.Pattern.{Test}
 use Rattle.search.specs.Private.Documents.{lines_of_taken}
 use Rattle.search.specs.Private.Gathered.{AreGathered, HaveOwnNames, IsGathered, all_stretches, left_from, with_limit}
 use Rattle.search.specs.Private.Rows.{AreRowsOf}
-use Rattle.search.specs.Request.{Request}
-use Rattle.search.specs.Scan.{Hit}
-use Rattle.search.specs.Selects.{Selects, IsAsked, found}
+use Rattle.prepare.specs.Request.{Request}
+use Rattle.views.specs.Found.{Hit}
+use Rattle.search.specs.Selects.{Selects, IsAsked}
+use Rattle.views.specs.Found.{found}
 use Rattle.lines.specs.Lines.{lines_of}
-use Rattle.search.specs.View.{hits_in, AreRows, IsColumnRow, IsSpansRow, Row, RowsOf, done, more, hit, name, at_most, body_of, is_over, limited, names_of, name_with_count, shows_names, stretches, total}
+use Rattle.search.specs.Rows.{hits_in, AreRows, IsColumnRow, IsSpansRow, RowsOf, done, more, at_most, body_of, is_over, limited, names_of, name_with_count, total}
+use Rattle.views.specs.View.{Row, hit, name, shows_names, stretches}
 use Rattle.search.proofs.LimitLemmas.{limited-all, limited-front, limited-over, at_most-within, at_most-front, is_over-front, at_most-over, is_over-over}
 use Rattle.search.proofs.ScanLemmas.{numbered-named}
 use Rattle.search.proofs.SelectsLemmas.{All-Selects}

@@ -13,17 +13,18 @@ use Rattle.request.specs.declared.options.View.{View}
 use Rattle.request.specs.declared.options.View.TheVariants as view
 use Rattle.search.specs.declared.gathered.Gathered.{Gathered}
 use Rattle.search.specs.declared.gathered.Wanted.{Wanted}
-use Rattle.search.specs.Prepared.{request_of}
+use Rattle.prepare.specs.Prepared.{request_of}
 use Rattle.search.specs.Private.Added.{AddsUpTo, IsReached}
 use Rattle.search.specs.Private.Documents.{lines_of_taken}
 use Rattle.search.specs.Private.Gathered.{AreGathered, AsksForName, FoundIn, Gathers, GathersMore, HaveBodies, HaveOwnNames, IsGathered, left_from, one_more, request_for, view_of, with_limit}
 use Rattle.search.specs.Private.Rows.{AreRowsOf}
-use Rattle.search.specs.Request.{Request}
-use Rattle.search.specs.Scan.{Hit}
+use Rattle.prepare.specs.Request.{Request}
+use Rattle.views.specs.Found.{Hit}
 use Rattle.search.specs.Selects.{Selects, done, IsAsked}
-use Rattle.search.specs.Tests.{test_of}
-use Rattle.search.specs.Text.{text_of_row, text_of_rows}
-use Rattle.search.specs.View.{AreRows, Row, hit, name, count, name_with_count, hits_in, at_most, is_over, limited, names_of, shows_names, total}
+use Rattle.prepare.specs.Tests.{test_of}
+use Rattle.views.specs.Text.{text_of_row, text_of_rows}
+use Rattle.search.specs.Rows.{AreRows, name_with_count, hits_in, at_most, is_over, limited, names_of, total}
+use Rattle.views.specs.View.{Row, hit, name, count, shows_names}
 use Rattle.search.proofs.GatherLemmas.{All-limited, gathered-append, gathered-over, found-apart, named-one, own-left, rows-none, names-none, rows-one, total-lines, total-names}
 use Rattle.search.proofs.LimitLemmas.{limited-all, limited-over, limited-cut, length-limited}
 use Rattle.search.proofs.SelectsLemmas.{Selects-append}

@@ -1,10 +1,8 @@
 -- What is shown of documents, and of more documents after them, with no gap before the first stretch of lines.
-use Rattle.std.proofs.Common.{◌≡◌, ℕ, zero, suc, ◌+◌, ◌-◌, ◌≤◌, ◌<◌, ◌⊎◌, ◌==◌, inl, inr, Bool, true, false, Option, List, [], ◌∷◌, ◌++◌, map, length, take, drop, refl, sym, ◌∙◌, ap, subst, arith, append_assoc, min}
+use Rattle.std.proofs.Common.{◌≡◌, ℕ, zero, suc, ◌+◌, ◌-◌, ◌≤◌, ◌<◌, ◌⊎◌, ◌==◌, Bool, true, false, Option, List, [], ◌∷◌, ◌++◌, map, length, take, drop, refl, sym, ◌∙◌, ap, subst, arith, append_assoc}
 use Rattle.std.specs.Prelude.{filter, flat_map, if◌then◌else◌}
 use Rattle.std.specs.List.{AllByRecursion}
 use Rattle.std.specs.Str.{bytes_eq}
-use Rattle.std.proofs.Math.ListN.{drop_of_length-le}
-use Rattle.std.proofs.lemmas.Bool.{cases_lt}
 use Rattle.std.proofs.lemmas.Bool.Decides.{nat_tests}
 use Rattle.std.proofs.lemmas.List.{length-append, take-append-drop}
 use Rattle.index.specs.Documents.{Document}
@@ -15,17 +13,18 @@ use Rattle.lines.specs.Lines.{lines_of}
 use Rattle.request.specs.declared.options.View.{View}
 use Rattle.request.specs.declared.options.View.TheVariants as view
 use Rattle.search.specs.Private.Gathered.{AreGathered, HasGap, BeginsWithGap, no_rows, rows_after, Gathers, HaveBodies, HaveOwnNames, IsGathered, Joins, all_stretches, cut_gap, gap_rows, left_from, request_for, shows_context, text_held, trimmed, view_of, with_limit}
-use Rattle.search.specs.Parts.{text_of_parts}
-use Rattle.search.specs.Prepared.{request_of}
-use Rattle.search.specs.Request.{Request}
-use Rattle.search.specs.Tests.{test_of}
-use Rattle.search.specs.Text.{text_of_hit, text_of_hits, text_of_row, text_of_rows}
+use Rattle.views.specs.Parts.{text_of_parts}
+use Rattle.prepare.specs.Prepared.{request_of}
+use Rattle.prepare.specs.Request.{Request}
+use Rattle.prepare.specs.Tests.{test_of}
+use Rattle.views.specs.Text.{text_of_hit, text_of_hits, text_of_row, text_of_rows}
 use Rattle.search.specs.declared.gathered.Gathered.{Gathered}
 use Rattle.search.specs.declared.gathered.Wanted.{Wanted}
 use Rattle.search.specs.declared.side_by_side.Joined.{Joined}
-use Rattle.search.specs.Scan.{Hit}
-use Rattle.search.specs.Selects.{numbered, lines_of_document}
-use Rattle.search.specs.View.{AreRows, Row, gap, hit, body_of, is_over, hits_in, is_near, limited, names_of, rows_from, stretches}
+use Rattle.views.specs.Found.{Hit}
+use Rattle.views.specs.Found.{numbered, lines_of_document}
+use Rattle.search.specs.Rows.{AreRows, body_of, is_over, hits_in, limited, names_of}
+use Rattle.views.specs.View.{Row, gap, hit, is_near, rows_from, stretches}
 use Rattle.search.proofs.GatherLemmas.{found-apart, gathered-append, gathered-over, gathered-within, own-left, own-right}
 use Rattle.search.proofs.GathersLemmas.{case-true, case-false, found-both, lines_viewed, selection_of, text-rows-append}
 
@@ -293,16 +292,6 @@ both-sides documents front back at first others =
 
 pub no-gap : (wanted : Wanted) → wanted.lines ≡ true → (rows : ℕ) → (cut_gap (shows_context (view_of wanted)) rows).0 ≡ 0
 no-gap wanted lines rows = ap (λ v. (cut_gap (shows_context v) rows).0) (lines_viewed wanted lines)
-
--- no more than all bytes are left out
-pub drop-least : (n : ℕ) (xs : List ℕ) → drop (min n (length xs)) xs ≡ drop n xs
-drop-least n xs = go (cases_lt (length xs) n)
-  where
-    go : (length xs < n) ⊎ (n ≤ length xs) → drop (min n (length xs)) xs ≡ drop n xs
-    go (inl low) =
-        let least : min n (length xs) ≡ length xs = omega arith in
-        ap (λ m. drop m xs) least ∙ (drop_of_length-le xs (omega arith) ∙ sym (drop_of_length-le xs (omega arith)))
-    go (inr high) = let least : min n (length xs) ≡ n = omega arith in ap (λ m. drop m xs) least
 
 -- ---- gaps
 

@@ -6,7 +6,7 @@ use Rattle.std.proofs.lemmas.Bool.Decides.{nat_tests}
 use Rattle.std.proofs.lemmas.List.{append-nil, length-append, length-take, take-append-le, take_all}
 use Rattle.search.specs.Private.Added.{IsReached}
 use Rattle.search.specs.Private.Gathered.{left_from, one_more}
-use Rattle.search.specs.View.{at_most, is_over, limited}
+use Rattle.search.specs.Rows.{at_most, is_over, limited}
 
 -- ---- one list after another
 
@@ -67,10 +67,6 @@ is_over-over None a b over = absurd (false≢true over)
 is_over-over (Some most) a b over = let high : most < a = grind (arith, nat_tests) in grind (arith, nat_tests)
 
 -- ---- another limit
-
--- what is within one limit, and is no more than another, is within the other
-pub within-other : (limit other : Option ℕ) (a : ℕ) → is_over limit a ≡ false → is_over other (at_most limit a) ≡ false → is_over other a ≡ false
-within-other limit other a within fits = ap (λ n. is_over other n) (sym (at_most-within limit a within)) ∙ fits
 
 pub nothing_taken : (limit : Option ℕ) → left_from limit 0 ≡ limit
 nothing_taken None = refl

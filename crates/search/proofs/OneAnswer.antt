@@ -17,13 +17,16 @@ use Rattle.spans.specs.FirstStart.{IsFirstStart}
 use Rattle.spans.specs.declared.span.Span.{Span}
 use Rattle.request.specs.declared.options.View.{View}
 use Rattle.request.specs.declared.options.View.TheVariants as view
-use Rattle.search.specs.Pattern.{Pattern}
-use Rattle.search.specs.Request.{Request}
-use Rattle.search.specs.Scan.{Answer, Hit, IsAnswerOf, hit_cmp}
-use Rattle.search.specs.Shown.{IsShownOf, Shown}
-use Rattle.search.specs.Text.{text_of_rows}
-use Rattle.search.specs.View.{AreRows, IsColumnRow, IsSpansRow, Row, RowsOf, at_column, at_most, is_over, shown_tree, total, with_spans}
-use Rattle.search.specs.View.{RowsOf as rows_of}
+use Rattle.prepare.specs.Pattern.{Pattern}
+use Rattle.prepare.specs.Request.{Request}
+use Rattle.views.specs.Found.{Answer, Hit}
+use Rattle.search.specs.Scan.{IsAnswerOf, hit_cmp}
+use Rattle.search.specs.Shown.{IsShownOf}
+use Rattle.views.specs.Shown.{Shown}
+use Rattle.views.specs.Text.{text_of_rows}
+use Rattle.search.specs.Rows.{AreRows, IsColumnRow, IsSpansRow, RowsOf, at_most, is_over, shown_tree, total}
+use Rattle.views.specs.View.{Row, at_column, with_spans}
+use Rattle.search.specs.Rows.{RowsOf as rows_of}
 
 -- ---- hits
 

@@ -7,11 +7,11 @@ use Rattle.std.proofs.lemmas.List.{length-take, length-drop, take_all, take-appe
 use Rattle.std.proofs.lemmas.List.Folds.{list_any-append}
 use Rattle.lines.specs.Lines.{lines_of, with_byte_in_front}
 use Rattle.index.specs.Text.{has_long_line}
-use Rattle.finder.specs.FirstLine.{IsWholeLines, HasNoFeed, IsLineStart}
-use Rattle.finder.proofs.LineLemmas.{lines-append}
-use Rattle.finder.proofs.CutLemmas.{lines_few}
+use Rattle.engine.specs.FirstLine.{IsWholeLines, HasNoFeed, IsLineStart}
+use Rattle.engine.proofs.LineLemmas.{lines-append}
+use Rattle.engine.proofs.CutLemmas.{lines_few}
 use Rattle.search.specs.Private.Pieces.{IsPiece, greatest_piece}
-use Rattle.search.specs.Selects.{found, numbered}
+use Rattle.views.specs.Found.{found, numbered}
 
 -- what is after the first `end` bytes of a text
 abbrev pub rest_of : List ℕ → ℕ → List ℕ

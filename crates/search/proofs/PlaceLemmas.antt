@@ -1,14 +1,15 @@
 -- Places in the bodies of documents, and places that are added.
 use Rattle.std.proofs.Common.{◌≡◌, ℕ, ◌+◌, ◌-◌, ◌<◌, ◌≤◌, ◌⊎◌, inl, inr, Option, List, [], ◌∷◌, ◌++◌, map, length, take, drop, refl, sym, ◌∙◌, ap, subst, arith, append_assoc}
 use Rattle.std.specs.Prelude.{slice_range, All}
-use Rattle.std.proofs.lemmas.List.{append-nil, map-append, length-append, length-map, length-take, length-drop, drop-take, drop-drop, take-take, take_all, get_or_append_left, get_or_push, nil_from_length}
+use Rattle.std.proofs.lemmas.List.{append-nil, map-append, length-append, length-map, length-take, length-drop, drop-take, drop-drop, take-take, get_or_append_left, get_or_push, nil_from_length}
 use Rattle.std.proofs.lemmas.List.Elements.{All-nil, All-cons, All-head, All-tail, All-append, All-weaker}
 use Rattle.index.specs.declared.document.SharedDocument.{SharedDocument}
-use Rattle.search.specs.declared.places.Place.{Place}
-use Rattle.search.specs.Pattern.{Test, Passes}
-use Rattle.search.specs.Scan.{Hit}
-use Rattle.search.specs.Places.{hit_in, home_of, hit_at, hits_at, IsPlaced}
-use Rattle.search.specs.Selects.{Selects, done, keep, IsAsked, found, lines_of_document}
+use Rattle.views.specs.declared.places.Place.{Place}
+use Rattle.prepare.specs.Pattern.{Test, Passes}
+use Rattle.views.specs.Found.{Hit}
+use Rattle.views.specs.Places.{hit_in, home_of, hit_at, hits_at, IsPlaced}
+use Rattle.search.specs.Selects.{Selects, done, keep, IsAsked}
+use Rattle.views.specs.Found.{found, lines_of_document}
 use Rattle.search.specs.Private.Documents.{lines_of_taken}
 use Rattle.search.specs.Private.Added.{HasTextAt, IsPlaceIn, IsReached, AddsPlaces, AddsPlacesUpTo, AddsUpTo}
 use Rattle.search.proofs.SelectsLemmas.{Selects-append}
@@ -36,11 +37,6 @@ module _ (body : List ℕ) (offset : ℕ) (text : List ℕ) (there : HasTextAt b
         (let same : offset + start + length part ≡ offset + end = omega arith in
         ap (λ n. slice_range body (offset + start) n) same ∙ (part_of_body ∙ sym is));
   }
-
-pub whole_is_there : (body : List ℕ) → HasTextAt body 0 body
-whole_is_there body =
-    let size : 0 + length body - 0 ≡ length body = omega arith in
-    record { inside = omega arith; same = ap (λ n. take n body) size ∙ take_all (length body) body (omega arith) }
 
 -- the first bytes of a text, and those after them
 pub first_is_there : (body : List ℕ) (offset : ℕ) (text : List ℕ) (end : ℕ) → end ≤ length text → HasTextAt body offset text
@@ -95,14 +91,6 @@ module _ (test : Test) (document : ℕ) (name body : List ℕ) where
     pub appended : now ≡ old ++ added
     pub inside : All (IsPlaceIn document body) added
     pub so_far : (more : List Hit) → Selects (IsAsked test) rest more → Selects (IsAsked test) whole (map (hit_in name body) added ++ more)
-
-  pub begin : (whole : List Hit) (old : List Place) → AddsSoFar whole whole old old
-  begin whole old = record {
-    added = [];
-    appended = sym (append-nil old);
-    inside = All-nil (IsPlaceIn document body);
-    so_far = λ more s. s;
-  }
 
   pub go_on : (first rest lines whole : List Hit) (old now new : List Place) → lines ≡ first ++ rest → AddsSoFar lines whole old now
       → AddsPlaces test document name body first now new → AddsSoFar rest whole old new

@@ -17,9 +17,12 @@ use Rattle.index.specs.Documents.{Document, RisesByName}
 use Rattle.index.specs.State.{State}
 use Rattle.index.proofs.DocumentLemmas.{Contains-cons, Contains-head, Contains-tail}
 use Rattle.ere.specs.Tree.{Tree}
-use Rattle.search.specs.Pattern.{Passes, Pattern}
-use Rattle.search.specs.Scan.{Hit, IsHit, hit_cmp, IsScanOf, can_have, candidates_of}
-use Rattle.search.specs.Selects.{found, numbered, lines_of_document, Selects, IsAsked}
+use Rattle.prepare.specs.Pattern.{Passes, Pattern}
+use Rattle.views.specs.Found.{Hit}
+use Rattle.search.specs.Scan.{IsHit, hit_cmp, IsScanOf, candidates_of}
+use Rattle.prepare.specs.Queries.{can_have}
+use Rattle.views.specs.Found.{found, numbered, lines_of_document}
+use Rattle.search.specs.Selects.{Selects, IsAsked}
 use Rattle.index.proofs.DocumentLemmas.{filter-Contains, Contains-filter}
 use Rattle.search.proofs.SelectsLemmas.{sorted-Selects, Contains-kept, kept-Contains}
 

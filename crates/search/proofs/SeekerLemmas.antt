@@ -3,17 +3,17 @@ use Rattle.std.proofs.Common.{◌≡◌, ℕ, ◌+◌, ◌-◌, ◌≤◌, ◌<�
 use Rattle.std.proofs.Common.{inl, inr, sym, subst, ◌∙◌, arith}
 use Rattle.std.proofs.lemmas.Bool.{cases_lt, false≢true}
 use Rattle.ere.specs.Tree.{Tree}
-use Rattle.finder.specs.Patterns.{IsFinderOf}
-use Rattle.finder.specs.Starts.{HasNoStartFrom, IsNextStart}
-use Rattle.finder.specs.declared.finding.Finder.{Finder}
+use Rattle.engine.specs.Patterns.{IsFinderOf}
+use Rattle.engine.specs.NextMatch.{HasNoMatchFrom, IsNextMatch}
+use Rattle.engine.specs.declared.finding.Finder.{Finder}
 use Rattle.spans.specs.FirstSpan.{HasNoSpan, IsFirstSpan, IsMatchAt, IsSpan}
 use Rattle.spans.specs.FirstStart.{HasNoStart, IsFirstStart}
 use Rattle.spans.specs.Passes.{HasNoEmpty, HasNoSpanAt, IsFirstEmpty, IsLongestEnd, NoSpanBegins, SomeSpanBegins}
 use Rattle.spans.specs.declared.span.Span.{Span as SpanValue}
-use Rattle.search.specs.Prepared.{request_of}
+use Rattle.prepare.specs.Prepared.{request_of}
 use Rattle.search.specs.Private.Seekers.{CanShow, IsLeastStart, IsTried, Seeks, shows_matches}
-use Rattle.search.specs.View.{shown_tree}
-use Rattle.search.specs.declared.pattern.Prepared.{Prepared}
+use Rattle.search.specs.Rows.{shown_tree}
+use Rattle.prepare.specs.declared.pattern.Prepared.{Prepared}
 use Rattle.search.specs.declared.seeker.Seeker.{Seeker as SeekerValue}
 use Rattle.search.specs.declared.seeker.Tried.{Tried as TriedValue}
 use Rattle.search.specs.declared.seeker.Tried.TheVariants.{Span, From}
@@ -52,10 +52,8 @@ has_seeker prepared found matches is shows = false≢true (sym (subst (λ o. Can
 
 -- ---- where whole words are not asked for, by a finder alone
 
-pub by_finder : (line : List ℕ) (tree : Tree) (found : Option ℕ) → MatchOption found (HasNoStartFrom line tree 0) (IsNextStart line tree 0)
-    → MatchOption found (HasNoStart line tree false) (IsFirstStart line tree false)
-by_finder line tree None none = λ start. none start (omega arith)
-by_finder line tree (Some start) is = record { begins = is.begins; leftmost = λ before earlier. is.leftmost before (omega arith) earlier }
+pub first_by_finder : (line : List ℕ) (tree : Tree) (start end : ℕ) → IsNextMatch line tree 0 start end → IsFirstStart line tree false start
+first_by_finder line tree start end is = record { begins = (end, is.is_match); leftmost = λ before earlier. is.leftmost before (omega arith) earlier }
 
 module _ (line : List ℕ) (tree : Tree) (whole_words : Bool) where
   -- the same span, looked for from another position on
@@ -179,14 +177,14 @@ module _ (line : List ℕ) (tree : Tree) (whole_words : Bool) where
   plain start end m = record { ordered = m.ordered; inside = m.inside; word = m.word; whole = λ e. absurd (false≢true e) }
 
   -- If no match begins from a position on, no span does.
-  pub none_found : (from next : ℕ) → NoSpanBegins line tree whole_words from next → HasNoStartFrom line tree next
+  pub none_found : (from next : ℕ) → NoSpanBegins line tree whole_words from next → HasNoMatchFrom line tree next
       → NoSpanBegins line tree whole_words from (length line)
   none_found from next least none start end s = absurd (none start (least start end s) end (plain start end s.is_match))
 
   -- No span begins before the next match.
-  pub begin_at_start : (from next start : ℕ) → NoSpanBegins line tree whole_words from next → IsNextStart line tree next start
+  pub begin_at_start : (from next start to : ℕ) → NoSpanBegins line tree whole_words from next → IsNextMatch line tree next start to
       → NoSpanBegins line tree whole_words from start
-  begin_at_start from next start least is other end s =
+  begin_at_start from next start to least is other end s =
       elim (cases_lt other start) [
         | inl before ↦ absurd (is.leftmost other (least other end s) before end (plain other end s.is_match))
         | inr behind ↦ behind

@@ -8,18 +8,13 @@ use Rattle.std.specs.declared.cmp.Ordering.{Ordering}
 use Rattle.std.specs.declared.cmp.Ordering.TheVariants.{Less}
 use Rattle.index.specs.Documents.{Document, RisesByName}
 use Rattle.index.proofs.DocumentLemmas.{Contains-cons, Contains-head, Contains-tail}
-use Rattle.search.specs.Scan.{Hit}
+use Rattle.views.specs.Found.{Hit}
 use Rattle.search.specs.Selects.{Selects, done, keep, skip}
 
 pub Selects-append : {X : Type 0} {Has : X → Type 0} {xs ys a b : List X} → Selects Has xs a → Selects Has ys b → Selects Has (xs ++ ys) (a ++ b)
 Selects-append done s = s
 Selects-append (keep h r) s = keep h (Selects-append r s)
 Selects-append (skip h r) s = skip h (Selects-append r s)
-
--- all are kept if each has the property
-pub Selects-all : {X : Type 0} (Has : X → Type 0) (xs : List X) → ((x : X) → Has x) → Selects Has xs xs
-Selects-all Has [] each = done
-Selects-all Has (x ∷ xs) each = keep (each x) (Selects-all Has xs each)
 
 -- what is kept of the values `f x` of a list
 pub Selects-map : {X Y : Type 0} (f : X → Y) (Has : Y → Type 0) {xs kept : List X} → Selects (λ x. Has (f x)) xs kept

@@ -6,13 +6,14 @@ use Rattle.std.proofs.lemmas.List.{append-nil, length-append, take_all}
 use Rattle.ere.specs.Tree.{Tree}
 use Rattle.ere.specs.Language.{ContainsMatch}
 use Rattle.lines.specs.Lines.{lines_of}
-use Rattle.finder.specs.FirstLine.{IsFirstLine, IsInside}
-use Rattle.finder.specs.declared.finding.FirstLine.{FirstLine}
-use Rattle.search.specs.declared.places.Place.{Place}
-use Rattle.search.specs.Pattern.{with_match}
-use Rattle.search.specs.Selects.{found, numbered, IsAsked, Selects, done, keep, skip}
+use Rattle.engine.specs.FirstLine.{IsFirstLine, IsInside}
+use Rattle.engine.specs.declared.finding.FirstLine.{FirstLine}
+use Rattle.views.specs.declared.places.Place.{Place}
+use Rattle.prepare.specs.Pattern.{with_match}
+use Rattle.views.specs.Found.{found, numbered}
+use Rattle.search.specs.Selects.{IsAsked, Selects, done, keep, skip}
 use Rattle.search.specs.Private.Added.{HasTextAt, AddsPlaces}
-use Rattle.search.proofs.LineLemmas.{numbered-empty}
+use Rattle.views.proofs.LineLemmas.{numbered-empty}
 use Rattle.search.proofs.PieceLemmas.{numbered-append}
 use Rattle.search.proofs.PlaceLemmas.{part_of_body, one_place}
 

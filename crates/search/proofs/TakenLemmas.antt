@@ -5,8 +5,9 @@ use Rattle.index.specs.declared.document.SharedDocument.{SharedDocument}
 use Rattle.index.specs.Shared.{documents_shared}
 use Rattle.index.specs.State.{State}
 use Rattle.search.specs.Front.{AreFronted}
-use Rattle.search.specs.Pattern.{Pattern}
-use Rattle.search.specs.Scan.{Hit, IsScanOf}
+use Rattle.prepare.specs.Pattern.{Pattern}
+use Rattle.views.specs.Found.{Hit}
+use Rattle.search.specs.Scan.{IsScanOf}
 use Rattle.search.specs.Selects.{Selects, IsAsked, IsNamedForAll}
 use Rattle.search.specs.Private.Documents.{lines_of_taken}
 use Rattle.search.proofs.CandidateLemmas.{wanted_are}

@@ -1,15 +1,14 @@
 -- Tests of lines and names.
-use Rattle.std.proofs.Common.{◌≡◌, ℕ, suc, ◌+◌, ◌<◌, Bool, true, false, not, List, [], ◌∷◌, ◌++◌, map, length, take, get_or, Some, refl, sym, ◌∙◌, ap, subst, arith}
+use Rattle.std.proofs.Common.{◌≡◌, ℕ, ◌+◌, ◌<◌, Bool, true, false, not, List, [], ◌∷◌, ◌++◌, length, get_or, Some, refl, sym, ◌∙◌, ap, subst}
 use Rattle.std.specs.Prelude.{◌↔◌, IsTrue, All}
-use Rattle.std.proofs.Math.Seq.{take-suc}
-use Rattle.std.proofs.lemmas.List.{map-append}
 use Rattle.std.proofs.lemmas.List.Elements.{All-nil, All-push, All-pop}
 use Rattle.ere.specs.Language.{ContainsMatch}
 use Rattle.index.specs.declared.document.SharedDocument.{SharedDocument}
-use Rattle.search.specs.Pattern.{Test, Passes, with_match}
+use Rattle.prepare.specs.Pattern.{Test, Passes, with_match}
 use Rattle.search.specs.Selects.{Selects, done, keep, skip, IsNamed, IsNamedForAll}
-use Rattle.search.specs.declared.asked.Test.{Test as PreparedTest}
-use Rattle.search.specs.Tests.{test_of}
+use Rattle.prepare.specs.declared.asked.Test.{Test as PreparedTest}
+use Rattle.prepare.specs.Tests.{test_of}
+use Rattle.prepare.proofs.TestLemmas.{first_tests, next_tests}
 
 pub passes_found : (test : Test) (found : Bool) (text : List ℕ) → test.inverted ≡ false → IsTrue found ↔ ContainsMatch test.tree text
     → IsTrue found ↔ Passes test text
@@ -45,18 +44,6 @@ pub Selects-same : {X : Type 0} {P Q : X → Type 0} {all kept : List X} → ((x
 Selects-same same done = done
 Selects-same same (keep {x} has s) = keep ((same x).0 has) (Selects-same same s)
 Selects-same same (skip {x} none s) = skip (λ h. none ((same x).1 h)) (Selects-same same s)
-
--- the first tests of some
-abbrev pub first_tests : List PreparedTest → ℕ → List Test
-first_tests tests count = map test_of (take count tests)
-
-pub next_tests : (tests : List PreparedTest) (at : ℕ) (test : PreparedTest) → at < length tests → test ≡ get_or tests at test
-    → first_tests tests (at + 1) ≡ first_tests tests at ++ test_of test ∷ []
-next_tests tests at test low is =
-    let next : at + 1 ≡ suc at = omega arith in
-    ap (λ n. map test_of (take n tests)) next
-    ∙ (ap (map test_of) (take-suc tests at test low)
-    ∙ (map-append test_of (take at tests) (get_or tests at test ∷ []) ∙ ap (λ t. first_tests tests at ++ test_of t ∷ []) (sym is)))
 
 -- one more test
 pub named_by_more : (tests : List PreparedTest) (at : ℕ) (test : PreparedTest) (all middle kept : List SharedDocument) → at < length tests

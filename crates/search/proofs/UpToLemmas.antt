@@ -6,14 +6,15 @@ use Rattle.std.proofs.lemmas.List.{append-nil, map-append}
 use Rattle.std.proofs.lemmas.List.Elements.{All-append}
 use Rattle.ere.specs.Language.{ContainsMatch}
 use Rattle.lines.specs.Lines.{lines_of}
-use Rattle.finder.proofs.Deciding.{decides, lines-feedless}
-use Rattle.finder.proofs.LineLemmas.{NoFeed}
-use Rattle.search.specs.declared.places.Place.{Place}
-use Rattle.search.specs.Pattern.{Test, Passes}
-use Rattle.search.specs.Places.{hit_in}
+use Rattle.engine.proofs.Deciding.{decides, lines-feedless}
+use Rattle.engine.proofs.LineLemmas.{NoFeed}
+use Rattle.views.specs.declared.places.Place.{Place}
+use Rattle.prepare.specs.Pattern.{Test, Passes}
+use Rattle.views.specs.Places.{hit_in}
 use Rattle.search.specs.Private.Added.{AddsPlaces, AddsPlacesUpTo, IsPlaceIn, IsReached}
-use Rattle.search.specs.Scan.{Hit}
-use Rattle.search.specs.Selects.{Selects, done, keep, skip, IsAsked, found, numbered}
+use Rattle.views.specs.Found.{Hit}
+use Rattle.search.specs.Selects.{Selects, done, keep, skip, IsAsked}
+use Rattle.views.specs.Found.{found, numbered}
 use Rattle.search.proofs.PlaceLemmas.{AddsSoFar}
 use Rattle.search.proofs.SelectsLemmas.{Selects-append}
 

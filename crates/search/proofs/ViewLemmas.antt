@@ -10,8 +10,9 @@ use Rattle.index.proofs.DocumentLemmas.{bytes_eq-refl, bytes_eq-sym}
 use Rattle.index.specs.Documents.{Document}
 use Rattle.request.specs.declared.options.View.{View}
 use Rattle.search.specs.Private.Gathered.{all_stretches}
-use Rattle.search.specs.Scan.{Hit}
-use Rattle.search.specs.View.{count, body_of, hits_in, name_with_count, names_of, shows_names, stretches, total}
+use Rattle.views.specs.Found.{Hit}
+use Rattle.views.specs.View.{count, shows_names, stretches}
+use Rattle.search.specs.Rows.{body_of, hits_in, name_with_count, names_of, total}
 
 -- ---- lists
 

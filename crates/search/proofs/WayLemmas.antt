@@ -1,11 +1,11 @@
 -- The ways of searching.
 use Rattle.std.proofs.Common.{◌≡◌, Option, Some, IfSome, subst}
 use Rattle.ere.specs.Tree.{Tree}
-use Rattle.finder.specs.Patterns.{IsFinderOf, IsCompiledFrom}
+use Rattle.engine.specs.Patterns.{IsFinderOf, IsCompiledFrom}
 use Rattle.matcher.specs.Steps.{IsQuick}
 use Rattle.simulation.specs.Simulations.{IsSimulationOf}
-use Rattle.finder.specs.declared.finding.Finder.{Finder}
-use Rattle.finder.specs.declared.compiled.Compiled.{Compiled}
+use Rattle.engine.specs.declared.finding.Finder.{Finder}
+use Rattle.engine.specs.declared.compiled.Compiled.{Compiled}
 use Rattle.simulation.specs.declared.simulation.Simulation.{Simulation as SimulationValue}
 use Rattle.search.specs.declared.way.Way.{Way}
 use Rattle.search.specs.declared.way.Way.TheVariants.{FromMatchToMatch, Matcher, Simulation}

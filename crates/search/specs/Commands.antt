@@ -3,8 +3,8 @@ use Rattle.std.specs.Prelude.{◌≡◌, ℕ, ◌-◌, ◌<◌, List, Some, slic
 use Rattle.lines.specs.Lines.{lines_of}
 use Rattle.index.specs.declared.command.Command.{Command}
 use Rattle.index.specs.Documents.{IsPutLast}
-use Rattle.search.specs.Pattern.{Passes, Pattern}
-use Rattle.search.specs.Scan.{Hit}
+use Rattle.prepare.specs.Pattern.{Passes, Pattern}
+use Rattle.views.specs.Found.{Hit}
 
 -- The pattern asks for this line of the last Put of its name, which no later command names.
 pub record IsHitOfPut (commands : List Command) (pattern : Pattern) (found : Hit) : Type 0 where

@@ -1,10 +1,12 @@
 -- Laws of answers and of what is shown of them: each is the contract of a function that does nothing.
 use Rattle.std.specs.Prelude.{◌≡◌}
 use Rattle.index.specs.State.{State}
-use Rattle.search.specs.Pattern.{Pattern}
-use Rattle.search.specs.Request.{Request}
-use Rattle.search.specs.Scan.{Answer, IsAnswerOf}
-use Rattle.search.specs.Shown.{IsShownOf, Shown}
+use Rattle.prepare.specs.Pattern.{Pattern}
+use Rattle.prepare.specs.Request.{Request}
+use Rattle.views.specs.Found.{Answer}
+use Rattle.search.specs.Scan.{IsAnswerOf}
+use Rattle.search.specs.Shown.{IsShownOf}
+use Rattle.views.specs.Shown.{Shown}
 
 -- In a state a pattern has at most one answer.
 abbrev pub AnswersAreOne : Type 0

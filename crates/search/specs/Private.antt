@@ -6,4 +6,4 @@ pub mod Added
 pub mod Pieces
 pub mod Rows
 pub mod Gathered
-pub mod Parts
+pub mod Ahead

@@ -1,21 +1,16 @@
--- The lines that a search finds, and its answer.
-use Rattle.std.specs.Prelude.{◌≡◌, ℕ, ◌-◌, ◌<◌, Bool, ◌||◌, List, length, Some, slice_get, filter, All, Contains, ◌↔◌}
+-- The lines that a search finds, and when an answer is one of a state.
+use Rattle.std.specs.Prelude.{◌≡◌, ℕ, ◌-◌, ◌<◌, List, length, Some, slice_get, filter, All, Contains, ◌↔◌}
 use Rattle.std.specs.Ordering.{nat_cmp, then_cmp, on}
 use Rattle.std.specs.Cmp.Lexicographic.{slice_cmp}
 use Rattle.std.specs.List.Sorted.{IsStrictlySortedBy}
 use Rattle.std.specs.declared.cmp.Ordering.{Ordering}
 use Rattle.lines.specs.Lines.{lines_of}
-use Rattle.query.specs.Trigrams.{TrigramSet, trigrams_of_body}
-use Rattle.trigram.specs.Analysis.{condition}
+use Rattle.query.specs.Trigrams.{trigrams_of_body}
 use Rattle.index.specs.Documents.{Document}
 use Rattle.index.specs.State.{State}
-use Rattle.search.specs.Pattern.{Test, Passes, Pattern}
-
--- a line that was found: its document's name, its number from 1, and its text
-pub record Hit : Type 0 where
-  pub name : List ℕ
-  pub line : ℕ
-  pub text : List ℕ
+use Rattle.prepare.specs.Pattern.{Test, Passes, Pattern}
+use Rattle.prepare.specs.Queries.{can_have}
+use Rattle.views.specs.Found.{Answer, Hit}
 
 -- The pattern asks for this line of some document.
 pub record IsHit (state : State) (pattern : Pattern) (found : Hit) : Type 0 where
@@ -36,21 +31,9 @@ pub record IsScanOf (state : State) (pattern : Pattern) (scan : List Hit) : Type
   pub rises : IsStrictlySortedBy hit_cmp scan
   pub exact : (found : Hit) → Contains scan found ↔ IsHit state pattern found
 
--- whether a document with these trigrams can have a line that passes the test: always, if lines without a match are asked for
-abbrev pub can_have : Test → TrigramSet → Bool
-can_have test set = test.inverted || condition test.tree set
-
 -- the documents whose trigrams let them have a line that passes the test
 abbrev pub candidates_of : State → Test → List Document
 candidates_of state test = filter (λ d. can_have test (trigrams_of_body d.body)) state.documents
-
--- an answer: its version, which is the number of commands; the lines found; how many documents there are; and how
--- many of them are candidates
-pub record Answer : Type 0 where
-  pub version : ℕ
-  pub hits : List Hit
-  pub documents : ℕ
-  pub candidates : ℕ
 
 pub record IsAnswerOf (state : State) (pattern : Pattern) (answer : Answer) : Type 0 where
   pub version : answer.version ≡ state.version

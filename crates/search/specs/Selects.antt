@@ -1,21 +1,8 @@
--- The lines of documents, one after another, and those of them that a search keeps.
-use Rattle.std.specs.Prelude.{ℕ, suc, List, [], ◌∷◌, All}
-use Rattle.lines.specs.Lines.{lines_of}
+-- Those of the lines, and of the documents, that a search keeps.
+use Rattle.std.specs.Prelude.{List, [], ◌∷◌, All}
 use Rattle.index.specs.declared.document.SharedDocument.{SharedDocument}
-use Rattle.search.specs.Pattern.{Test, Passes}
-use Rattle.search.specs.Scan.{Hit}
-
-abbrev pub found : List ℕ → ℕ → List ℕ → Hit
-found name line text = record { name = name; line = line; text = text }
-
--- the lines of the document with this name, of which the first has the number `line`
-unfoldable pub numbered : List ℕ → ℕ → List (List ℕ) → List Hit
-numbered name line [] = []
-numbered name line (text ∷ texts) = found name line text ∷ numbered name (suc line) texts
-
--- the lines of a body, from number 1 on
-abbrev pub lines_of_document : List ℕ → List ℕ → List Hit
-lines_of_document name body = numbered name 1 (lines_of body)
+use Rattle.prepare.specs.Pattern.{Test, Passes}
+use Rattle.views.specs.Found.{Hit}
 
 -- The second list has those members of the first that have the property, in the same order.
 pub data Selects {X : Type 0} (Has : X → Type 0) : List X → List X → Type 0 where

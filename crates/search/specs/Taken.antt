@@ -5,8 +5,8 @@ use Rattle.index.specs.Shared.{documents_shared}
 use Rattle.index.specs.State.{State}
 use Rattle.search.specs.declared.taken.Taken.{Taken}
 use Rattle.search.specs.Front.{AreFronted}
-use Rattle.search.specs.Prepared.{request_of}
-use Rattle.search.specs.Request.{Request}
+use Rattle.prepare.specs.Prepared.{request_of}
+use Rattle.prepare.specs.Request.{Request}
 use Rattle.search.specs.Scan.{candidates_of}
 
 -- It was taken from an index in this state, in which no two documents have the same name, for this request: the number of all

@@ -8,19 +8,20 @@ ghost use Rattle.search.specs.declared.unanswered.Unanswered.TheVariants.{OutOfM
 ghost use Rattle.search.specs.Private.Gathered.{Gathers, GathersMore, HaveOwnNames, AddsRows, AsksForName, left_from, one_more};
 ghost use Rattle.search.specs.Private.Seekers.{CanShow, IsOneLine};
 ghost use Rattle.search.specs.Private.Ways.{AreFew, Finds};
-ghost use Rattle.search.specs.View.{is_over, limited, shows_names};
+ghost use Rattle.search.specs.Rows.{is_over, limited};
+ghost use Rattle.views.specs.View.{shows_names};
 
 use crate::matching::{few_documents, scan_document};
-use crate::pattern::Prepared;
-use crate::places::Places;
 use crate::rows::append_rows;
 use crate::seeker::{Seeker, compile_word, compiled_of_shown, shown_seeker};
 use crate::unanswered::Unanswered;
 use crate::watch::{Watch, ask};
 use crate::way::{Way, compile, way_by};
 use index::SharedDocument;
+use prepare::Prepared;
 use request::View;
 use std::alloc::Global;
+use views::Places;
 
 /// What is to be gathered.
 #[derive(Clone, Copy)]
@@ -49,9 +50,9 @@ pub(crate) struct Gathered {
 }
 
 /// What is shown of these documents, which have different names. Where lines near hits are shown, the first stretch has
-/// a gap before it too. No line is looked at once it is known that there are more than are shown. `watch` gets the
-/// number of each document, and is asked whether the answer is wanted before each document, before each further piece
-/// of one, and before each pass over a line that looks for a column or a span.
+/// a gap before it too. No line is looked at once it is known that there are more than are shown. `watch` is asked whether
+/// the answer is wanted before each document, before each further piece of one, and before each pass over a line that
+/// looks for a column or a span.
 ///
 /// `CalledOff` is returned once `watch` says that the answer is not wanted. `OutOfMemory` means that memory ran out, or
 /// that a name or a body has too many handles.
@@ -162,7 +163,6 @@ fn gather_by<W: Watch>(
             return Ok(());
         }
         ask(watch)?;
-        watch.reads(document.number);
         gather_one(alloc, wanted, way, seeker, document, gathered, watch)?;
     }
     Ok(())

@@ -3,8 +3,9 @@
 ghost use Rattle.std.specs.Prelude.{◌≡◌, List, length, Contains, ◌↔◌};
 ghost use Rattle.index.specs.declared.command.Command.{Command as CommandValue};
 ghost use Rattle.index.specs.State.{state_of};
-ghost use Rattle.search.specs.Pattern.{Pattern};
-ghost use Rattle.search.specs.Scan.{Hit, Answer, IsAnswerOf};
+ghost use Rattle.prepare.specs.Pattern.{Pattern};
+ghost use Rattle.views.specs.Found.{Hit, Answer};
+ghost use Rattle.search.specs.Scan.{IsAnswerOf};
 ghost use Rattle.search.specs.Commands.{IsHitOfPut};
 ghost use Rattle.search.specs.Laws.{AnswersAreOne, ShownAreOne};
 

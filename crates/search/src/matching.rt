@@ -1,30 +1,31 @@
 //! The lines of documents that pass a test.
 
-ghost use Rattle.std.specs.Prelude.{◌≡◌, ◌≢◌, ◌<◌, ◌≤◌, ◌+◌, ℕ, List, false, [], ◌∷◌, length, slice_index, IfErr, OnOk, All, MatchBool};
+ghost use Rattle.std.specs.Prelude.{◌≡◌, ◌≢◌, ◌<◌, ◌≤◌, ◌+◌, ℕ, List, false, [], ◌∷◌, length, slice_index, IfOk, IfErr, OnOk, All, MatchBool};
 ghost use Rattle.ere.specs.Tree.{Tree, form};
 ghost use Rattle.index.specs.Text.{greatest_body, has_long_line};
-ghost use Rattle.finder.specs.Patterns.{IsFinderOf};
+ghost use Rattle.engine.specs.Patterns.{IsFinderOf};
 ghost use Rattle.search.specs.CalledOff.{IsCalledOffOnlyIf};
-ghost use Rattle.search.specs.Pattern.{with_match};
-ghost use Rattle.search.specs.Tests.{test_of};
-ghost use Rattle.search.specs.Places.{hits_at, IsPlaced};
-ghost use Rattle.search.specs.Selects.{IsAsked, found, lines_of_document};
+ghost use Rattle.prepare.specs.Pattern.{with_match};
+ghost use Rattle.prepare.specs.Tests.{test_of};
+ghost use Rattle.views.specs.Places.{hits_at, IsPlaced};
+ghost use Rattle.search.specs.Selects.{IsAsked};
+ghost use Rattle.views.specs.Found.{found, lines_of_document};
 ghost use Rattle.search.specs.Private.Added.{HasTextAt, AddsPlaces, AddsPlacesUpTo, AddsLinesUpTo, AddsUpTo, IsReached};
 ghost use Rattle.search.specs.Private.Documents.{lines_of_taken};
 ghost use Rattle.search.specs.Private.Ways.{Finds, AreFew};
 
-use crate::asked::Test;
 use crate::piece::piece_end;
-use crate::places::{Place, Places, share};
 use crate::unanswered::Unanswered;
 use crate::watch::{Watch, ask};
 use crate::way::{Way, passes};
-use finder::{Finder, lines_before};
+use engine::{Finder, lines_before};
 use index::{Body, SharedDocument};
 use lines::MAX_LINE;
 use matcher::is_quick;
 use memchr::memchr;
+use prepare::Test;
 use std::alloc::AllocError;
+use views::{Place, Places};
 
 /// How many bytes of bodies are looked at line by line before a pattern is compiled. Compiling one takes about
 /// as long as the matcher takes for this many bytes: it was measured to be 4 to 7 KB with a literal, 7 to 25 KB
@@ -315,4 +316,15 @@ fn scan_line(
         end: offset + text.len() as u32,
     })?;
     Ok(())
+}
+
+/// Another handle to the document. An `Err` means that its name or its body has too many handles.
+fn share(document: &SharedDocument) -> Result<SharedDocument, AllocError>
+    ensures { IfOk result (λ shared. shared ≡ document.now) }
+{
+    Ok(SharedDocument {
+        number: document.number,
+        name: document.name.share()?,
+        held: document.held.share()?,
+    })
 }

@@ -4,18 +4,17 @@ ghost use Rattle.std.specs.Prelude.{IfOk, IfErr, map, take};
 ghost use Rattle.ere.specs.Tree.{form};
 ghost use Rattle.ere.specs.Limits.{IsWithinLimits};
 ghost use Rattle.search.specs.CalledOff.{IsCalledOffOnlyIf};
-ghost use Rattle.search.specs.Prepared.{pattern_of};
-ghost use Rattle.search.specs.Tests.{test_of};
+ghost use Rattle.prepare.specs.Prepared.{pattern_of};
+ghost use Rattle.prepare.specs.Tests.{test_of};
 ghost use Rattle.search.specs.Selects.{Selects, IsNamed, IsNamedForAll};
 ghost use Rattle.search.specs.Private.Ways.{Finds};
 
-use crate::asked::Test;
-use crate::pattern::Prepared;
 use crate::unanswered::Unanswered;
 use crate::watch::{Watch, ask};
 use crate::way::{Way, compile, passes, way_by};
 use index::SharedDocument;
 use matcher::is_quick;
+use prepare::{Prepared, Test};
 use std::alloc::Global;
 
 /// Those of the documents whose names, each taken as a line, pass the tests of names, in the same order. Without such

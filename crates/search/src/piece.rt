@@ -2,7 +2,7 @@
 
 ghost use Rattle.search.specs.Private.Pieces.{IsPiece};
 
-use finder::line_start;
+use engine::line_start;
 
 /// The greatest length of a piece, in bytes, unless its first line is longer. A body that is no longer is one piece.
 const MAX_PIECE: usize = 65_536;

@@ -1,28 +1,29 @@
 //! How the matches within a line are looked for.
 
-ghost use Rattle.std.specs.Prelude.{◌≡◌, ◌<◌, ◌≤◌, ℕ, length, IfOk, IfErr, IfSome, MatchOption};
+ghost use Rattle.std.specs.Prelude.{◌≡◌, ◌<◌, ◌≤◌, ℕ, false, IsTrue, length, IfOk, IfErr, IfSome, MatchOption};
 ghost use Rattle.ere.specs.Tree.{Tree, form};
-ghost use Rattle.finder.specs.Patterns.{IsCompiledFrom, IsFinderOf};
+ghost use Rattle.engine.specs.Patterns.{IsCompiledFrom, IsFinderOf};
 ghost use Rattle.simulation.specs.Simulations.{IsSimulationOf};
-ghost use Rattle.spans.specs.FirstSpan.{HasNoSpan, IsFirstSpan};
+ghost use Rattle.spans.specs.FirstSpan.{HasNoSpan, IsFirstSpan, IsMatchAt};
 ghost use Rattle.spans.specs.FirstStart.{HasNoStart, IsFirstStart};
-ghost use Rattle.spans.specs.Passes.{NoSpanBegins, SomeSpanBegins};
+ghost use Rattle.spans.specs.Passes.{IsLongestEnd, NoSpanBegins, SomeSpanBegins};
+ghost use Rattle.spans.specs.Sides.{is_word_before};
 ghost use Rattle.search.specs.CalledOff.{IsCalledOffOnlyIf};
-ghost use Rattle.search.specs.Prepared.{request_of};
+ghost use Rattle.prepare.specs.Prepared.{request_of};
 ghost use Rattle.search.specs.Private.Seekers.{CanShow, IsLeastStart, IsOneLine, IsTried, shows_matches};
-ghost use Rattle.search.specs.View.{shown_tree};
+ghost use Rattle.search.specs.Rows.{shown_tree};
 
-use crate::asked::Test;
-use crate::pattern::Prepared;
 use crate::unanswered::Unanswered;
 use crate::watch::{Watch, ask};
 use crate::way::compile;
-use ere::Ere;
-use finder::{Compiled, Finder};
+use engine::{Compiled, Finder};
+use ere::{Ere, is_word_byte};
+use prepare::{Prepared, Test};
 use request::View;
 use simulation::Simulation;
 use spans::Span;
 use std::alloc::{AllocError, Global};
+use std::ops::Range;
 
 /// How many starts of matches are tried, each as the start of a span. Almost always the first one is a span's. If none of
 /// these is, the start is found by halving, so that the number of passes over a line is bounded.
@@ -49,7 +50,7 @@ impl<'p> Seeker<'p> {
     ghost use Rattle.std.specs.Prelude.{◌≡◌, ◌≤◌, IfOk, IfErr, IfSome, MatchOption};
     ghost use Rattle.ere.specs.Limits.{IsWithinLimits};
     ghost use Rattle.ere.specs.Tree.{Tree, form};
-    ghost use Rattle.finder.specs.Patterns.{IsCompiledFrom};
+    ghost use Rattle.engine.specs.Patterns.{IsCompiledFrom};
     ghost use Rattle.spans.specs.FirstSpan.{HasNoSpan, IsFirstSpan};
     ghost use Rattle.spans.specs.FirstStart.{HasNoStart, IsFirstStart};
     ghost use Rattle.search.specs.CalledOff.{IsCalledOffOnlyIf};
@@ -123,8 +124,15 @@ impl<'p> Seeker<'p> {
         }
         match &mut self.finder {
             Some(finder) => {
+                // Whether an empty match is at the front is known without a pass.
+                if let Some(0) = self.simulation.first_empty(line, false) {
+                    return Ok(Some(0));
+                }
                 ask(watch)?;
-                Ok(finder.next_start(line, 0))
+                match finder.next_match(line, 0) {
+                    Some(found) => Ok(Some(found.start)),
+                    None => Ok(None),
+                }
             }
             None => halved_start(&mut self.simulation, line, false, watch),
         }
@@ -257,9 +265,13 @@ fn try_each<W: Watch>(
     let mut tries = 0;
     while tries < TRIES && next < line.len() {
         ask(watch)?;
-        let Some(start) = finder.next_start(line, next) else {
+        let Some(found) = finder.next_match(line, next) else {
             return Ok(Tried::From(line.len()));
         };
+        let Range { start, end } = found;
+        if reaches_end(line, start, end, whole_words) {
+            return Ok(Tried::Span(Span { start, end }));
+        }
         ask(watch)?;
         if let Some(end) = simulation.longest_end(line, start, whole_words) {
             return Ok(Tried::Span(Span { start, end }));
@@ -268,6 +280,23 @@ fn try_each<W: Watch>(
         tries += 1;
     }
     Ok(Tried::From(next))
+}
+
+/// Whether a match is a span that reaches the line's end: it is not empty, and with `whole_words` no letter, digit or `_` is
+/// right before it. So no span is longer that begins where it does.
+fn reaches_end(line: &[u8], start: usize, end: usize, whole_words: bool) -> bool
+    requires { start ≤ length line.now }
+    ensures { IsTrue result → (tree : Tree) → IsMatchAt line.now tree false start end → IsLongestEnd line.now tree whole_words start end }
+{
+    start < end && end == line.len() && !(whole_words && follows_word(line, start))
+}
+
+/// Whether a letter, digit or `_` is right before the position.
+fn follows_word(line: &[u8], at: usize) -> bool
+    requires { at ≤ length line.now }
+    ensures { result ≡ is_word_before line.now at }
+{
+    at > 0 && is_word_byte(line[at - 1])
 }
 
 /// The first span of the line from the offset `from` on, whose start is found by halving.

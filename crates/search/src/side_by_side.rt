@@ -5,22 +5,21 @@ ghost use Rattle.index.specs.declared.document.SharedDocument.{SharedDocument};
 ghost use Rattle.search.specs.CalledOff.{IsCalledOffOnlyIf};
 ghost use Rattle.search.specs.declared.unanswered.Unanswered.TheVariants.{OutOfMemory};
 ghost use Rattle.search.specs.Private.Gathered.{HasGap, HaveOwnNames, Joins, cut_gap, gap_rows, left_from, shows_context, text_held, view_of};
-ghost use Rattle.search.specs.Parts.{text_of_parts};
-ghost use Rattle.search.specs.Text.{text_of_rows};
-ghost use Rattle.search.specs.View.{is_over};
+ghost use Rattle.views.specs.Parts.{text_of_parts};
+ghost use Rattle.views.specs.Text.{text_of_rows};
+ghost use Rattle.search.specs.Rows.{is_over};
 ghost use denote.Param.Send.{IsSync, IsSend};
 
+use crate::ahead::text_of_first;
 use crate::gathered::{Gathered, Wanted, gather, left_of, sum_of};
 use crate::matching::body_size;
-use crate::parts::Part;
-use crate::places::Places;
-use crate::text::text_of_first;
 use crate::unanswered::Unanswered;
 use crate::watch::Watch;
 use index::SharedDocument;
 use request::View;
 use std::alloc::Global;
 use std::thread::{Threads, join};
+use views::{Part, Places};
 
 /// A part has at least so many bytes of bodies. To start a thread and to wait for it takes as long as to look through some
 /// twentieth of that.

@@ -3,22 +3,20 @@
 ghost use Rattle.std.specs.Prelude.{◌≡◌, if◌then◌else◌, IfOk, IfErr};
 ghost use Rattle.search.specs.declared.unanswered.Unanswered.TheVariants.{OutOfMemory};
 ghost use Rattle.search.specs.Private.Gathered.{shown_with, view_of};
-ghost use Rattle.search.specs.Prepared.{request_of};
+ghost use Rattle.prepare.specs.Prepared.{request_of};
 ghost use Rattle.search.specs.Taken.{IsTakenOf};
 
-use crate::answer::{Answer, Contents};
-use crate::front::front_of;
 use crate::gathered::{Wanted, gather};
 use crate::names::named;
-use crate::pattern::Prepared;
-use crate::shown::{Shown, ShownContents};
 use crate::side_by_side::{Joined, gather_part, gather_side_by_side};
 use crate::unanswered::Unanswered;
 use crate::watch::{NoWatch, Watch};
 use index::{Index, SharedDocument};
+use prepare::{Prepared, front_of};
 use request::View;
 use std::alloc::{AllocError, Global};
 use std::thread::Threads;
+use views::{Answer, Contents, Shown, ShownContents};
 
 /// What a search has taken out of an index: the version, the counts, and the candidates. It does not borrow the
 /// index, which can change or be dropped while names and lines are matched. Names and bodies are shared, so it takes
@@ -66,7 +64,7 @@ pub fn take<'p>(
 impl Taken<'_> {
     ghost use Rattle.std.specs.Prelude.{IfOk, IfErr};
     ghost use Rattle.index.specs.State.{State};
-    ghost use Rattle.search.specs.Request.{Request};
+    ghost use Rattle.prepare.specs.Request.{Request};
     ghost use Rattle.search.specs.CalledOff.{IsCalledOffOnlyIf};
     ghost use Rattle.search.specs.Shown.{IsShownOf};
     ghost use Rattle.search.specs.Scan.{IsAnswerOf};
@@ -86,8 +84,7 @@ impl Taken<'_> {
         }
     }
 
-    /// The same as `answer`, but `watch` gets the number of each document whose lines are matched, and can call the
-    /// search off.
+    /// The same as `answer`, but `watch` can call the search off.
     ///
     /// `CalledOff` is returned only after `watch.wants()` said `false`, and nothing is asked after that. `OutOfMemory`
     /// means that memory ran out, or that a name or a body has too many handles.
@@ -117,7 +114,7 @@ impl Taken<'_> {
 
     /// Matches the names and then the lines, and returns what the request shows of the answer, in the state that the
     /// index had when the candidates were taken. It looks at no more lines than it must: once enough is found for a
-    /// limit, at none. `watch` gets the number of each document whose lines are matched, and can call the search off.
+    /// limit, at none. `watch` can call the search off.
     ///
     /// `CalledOff` is returned only after `watch.wants()` said `false`. `OutOfMemory` means that memory ran out, or
     /// that a name or a body has too many handles.

@@ -5,13 +5,10 @@ ghost use Rattle.search.specs.declared.unanswered.Unanswered.TheVariants.{Called
 
 use crate::unanswered::Unanswered;
 
-/// Learns which documents a search looks at, and can call the search off.
+/// Can call a search off.
 pub trait Watch {
     /// `wants` has said that the answer is not wanted.
     ghost has_said_no: { Self → Type 0 };
-
-    /// Called just before the lines of the document with this number are matched.
-    fn reads(&mut self, number: u32);
 
     /// Whether the answer is still wanted. It is asked before each name that is matched, before each document, at the next
     /// 64 KiB within one, before each pass over a line that looks for a column or a span, and before each 64 KiB of text that
@@ -26,8 +23,6 @@ pub struct NoWatch;
 
 impl Watch for NoWatch {
     ghost has_said_no = { λ _. ⊥ };
-
-    fn reads(&mut self, _number: u32) {}
 
     fn wants(&mut self) -> bool
         ensures { result ≡ true }

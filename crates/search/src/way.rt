@@ -4,16 +4,16 @@ ghost use Rattle.std.specs.Prelude.{◌≢◌, ◌<◌, ◌≤◌, ◌↔◌, �
 ghost use Rattle.ere.specs.Tree.{form};
 ghost use Rattle.ere.specs.Language.{ContainsMatch};
 ghost use Rattle.ere.specs.Limits.{IsWithinLimits};
-ghost use Rattle.finder.specs.Patterns.{IsCompiledFrom};
-ghost use Rattle.search.specs.Pattern.{Passes};
-ghost use Rattle.search.specs.Tests.{test_of};
+ghost use Rattle.engine.specs.Patterns.{IsCompiledFrom};
+ghost use Rattle.prepare.specs.Pattern.{Passes};
+ghost use Rattle.prepare.specs.Tests.{test_of};
 ghost use Rattle.search.specs.Private.Ways.{Finds};
 
-use crate::asked::Test;
+use engine::{Compiled, Finder};
 use ere::Ere;
-use finder::{Compiled, Finder};
 use lines::MAX_LINE;
 use matcher::{is_quick, matches};
+use prepare::Test;
 use simulation::Simulation;
 use std::alloc::{AllocError, Global};
 

@@ -6,20 +6,20 @@ use Rattle.index.specs.State.{State, state_of}
 use Rattle.index.specs.declared.command.Command.{Command}
 use Rattle.index.specs.declared.command.Command.TheVariants.{Put, Remove}
 use Rattle.script.specs.Items as item
-use Rattle.shared.specs.Desk.{DeskState}
-use Rattle.shared.specs.History.{Known, known}
+use Rattle.published.specs.Desk.{DeskState}
+use Rattle.published.specs.History.{Known, known}
 use Rattle.transcript.specs.declared.entry.Entry.{Entry}
 use Rattle.transcript.specs.declared.entry.Entry.TheVariants.{Refused, Published}
 use Rattle.transcript.specs.declared.entry.Reason.{Reason}
 use Rattle.transcript.specs.declared.entry.Reason.TheVariants as reason
-use Rattle.steps.specs.LegalRows.{IsNamed, bad_name, no_memory, named, HasBody, bad_body, with_body, IsRoomFor, full, accepted, IsPut}
-use Rattle.steps.specs.LegalRows.{HasLoaded, IsRemove, no_such_file, is_there}
+use Rattle.steps.specs.LegalRows.{IsNamed, bad_name, no_memory, named, IsRoomFor, full, accepted, IsPut}
+use Rattle.steps.specs.LegalRows.{IsRemove, no_such_file, is_there}
 use Rattle.steps.specs.LegalRows as legal
 use Rattle.steps.specs.Rows.{accepted_by, version_in, failures_in}
 use Rattle.service.specs.Private.Entries.{entry_of, published_entry_of, desk_after, IsLoaded}
 use Rattle.steps.specs.StepRows.{searches_in}
 use Rattle.service.specs.Private.Items.{IsEntered, all, nothing}
-use Rattle.service.proofs.ItemLemmas.{counted_same, no_failure_in_body}
+use Rattle.service.proofs.ItemLemmas.{counted_same, no_failure_at, no_failure_in_body}
 
 -- the entry of a command has no version and is not that of a search; and the desk after the command
 pub no_version : (line : ℕ) (done : Result ℕ Reason) → version_in (Some (entry_of line done)) ≡ []
@@ -43,9 +43,6 @@ same_opening (Err why) commands desk = (refl, refl)
 pub same_published : (done : Result ℕ Reason) (commands : List Command) (desk : DeskState) → (desk_after done commands desk).published ≡ desk.published
 same_published (Ok count) commands desk = refl
 same_published (Err why) commands desk = refl
-
-no_failure_at : {entry entry' : Entry} → entry ≡ entry' → failures_in (Some entry') ≡ 0 → failures_in (Some entry) ≡ 0
-no_failure_at is none = ap (λ e. failures_in (Some e)) is ∙ none
 
 no_failure_in_room : (most : ℕ) (state : State) (line : ℕ) (entry : Entry) → IsRoomFor most state line entry → failures_in (Some entry) ≡ 0
 no_failure_in_room most state line entry (full limit is) = no_failure_at is refl

@@ -1,5 +1,5 @@
 -- The entries of single items are legal.
-use Rattle.std.proofs.Common.{◌≡◌, ◌≢◌, ℕ, zero, suc, ◌≤◌, ◌<◌, ◌+◌, ◌-◌, ◌⊎◌, inl, inr, Bool, true, false, List, Some, refl, ap, ◌∙◌, arith, MatchBool}
+use Rattle.std.proofs.Common.{◌≡◌, ◌≢◌, ℕ, zero, suc, ◌<◌, ◌-◌, ◌⊎◌, inl, inr, Bool, true, false, List, Some, refl, ap, ◌∙◌, arith, MatchBool}
 use Rattle.ere.specs.declared.error.EreError.{EreError}
 use Rattle.ere.specs.declared.error.EreErrorKind.{EreErrorKind}
 use Rattle.ere.specs.declared.error.EreErrorKind.TheVariants as kind
@@ -9,21 +9,20 @@ use Rattle.index.specs.State.{State}
 use Rattle.index.specs.declared.error.NameError.{NameError}
 use Rattle.index.specs.declared.error.NameError.TheVariants as name
 use Rattle.index.specs.declared.error.BodyErrorKind.TheVariants as body
-use Rattle.std.proofs.Common.{length, ◌^◌}
+use Rattle.std.proofs.Common.{length}
 use Rattle.steps.specs.Rows.{failures_in}
 use Rattle.index.specs.Text.{greatest_body, IsName, IsNameFault, IsBodyFault}
-use Rattle.search.specs.Pattern.{HasTree, IsTreeFault}
+use Rattle.prepare.specs.Pattern.{HasTree, IsTreeFault}
 use Rattle.transcript.specs.declared.entry.Entry.{Entry}
 use Rattle.transcript.specs.declared.entry.Entry.TheVariants.{Refused}
 use Rattle.transcript.specs.declared.entry.SearchReason.TheVariants as search_reason
 use Rattle.steps.specs.LegalRows.{IsNamed, bad_name, no_memory, named, bad_body, with_body, full, accepted, IsPut, IsRemove, HasLoaded, loaded_body}
-use Rattle.steps.specs.LegalRows.{IsFailedTimes}
 use Rattle.request.specs.Faults.{IsFirstFault}
 use Rattle.request.specs.Find.{IsFindOf, Options}
 use Rattle.request.specs.declared.fault.FindFault.{FindFault}
 use Rattle.request.specs.declared.fault.FindFault.TheVariants as find_fault
-use Rattle.search.specs.Request.{IsRequestFault}
-use Rattle.search.specs.declared.requested.FindError.{FindError}
+use Rattle.prepare.specs.Request.{IsRequestFault}
+use Rattle.prepare.specs.declared.requested.FindError.{FindError}
 use Rattle.transcript.specs.declared.entry.SearchReason.{SearchReason}
 use Rattle.steps.specs.Asked.{IsFaultOfSearch, IsFaultOfSearchIn, IsFaultOfFind}
 use Rattle.steps.specs.Asked as asked
@@ -185,7 +184,7 @@ no_failure_in_name name.TooLong = refl
 no_failure_in_name name.BadByte = refl
 no_failure_in_name name.OutOfMemory = refl
 
-no_failure_at : {entry entry' : Entry} → entry ≡ entry' → failures_in (Some entry') ≡ 0 → failures_in (Some entry) ≡ 0
+pub no_failure_at : {entry entry' : Entry} → entry ≡ entry' → failures_in (Some entry') ≡ 0 → failures_in (Some entry) ≡ 0
 no_failure_at is none = ap (λ e. failures_in (Some e)) is ∙ none
 
 pub no_failure_in_body : (most : ℕ) (state : State) (bytes : List ℕ) (line : ℕ) (entry : Entry)
@@ -200,18 +199,6 @@ counted_none entry failed failed' none same = record {
   rises = inl (rw none (omega arith));
   stays = λ e. same ∙ e;
 }
-
--- An entry that says that the source failed counts as one failure.
-pub counted_one : (entry : Entry) (failed failed' : ℕ) → failures_in (Some entry) ≡ 1 → failed ≤ failed' → failed' ≤ failed + 1
-    → failed' < 2 ^ 64 → (failed < failed') ⊎ (failed' ≡ 2 ^ 64 - 1) → IsCounted (failures_in (Some entry)) failed failed'
-counted_one entry failed failed' one grows by_one below failure = record {
-  rises = by_failure failure;
-  stays = λ e. omega arith;
-}
-  where
-    by_failure : (failed < failed') ⊎ (failed' ≡ 2 ^ 64 - 1) → IsFailedTimes (failures_in (Some entry)) failed failed'
-    by_failure (inl rises) = inl (rw one (omega arith))
-    by_failure (inr all) = inr (all, rw one (omega arith))
 
 pub counted_same : (entry : Entry) (failed : ℕ) → failures_in (Some entry) ≡ 0 → IsCounted (failures_in (Some entry)) failed failed
 counted_same entry failed none = record {

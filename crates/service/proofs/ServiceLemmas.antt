@@ -10,18 +10,20 @@ use Rattle.std.specs.List.{HoldsAt}
 use Rattle.std.specs.List.Sorted.{IsSearchInRange}
 use Rattle.std.specs.Ordering.{nat_cmp}
 use Rattle.std.specs.declared.cmp.Ordering.TheVariants.{Equal}
+use Rattle.steps.proofs.RowLemmas.{last_or-append}
 use mathlib.Core.List.{IsPrefix}
 use Rattle.index.specs.declared.command.Command.{Command}
 use Rattle.index.specs.declared.command.Command.TheVariants.{Put}
 use Rattle.index.specs.State.{state_of}
-use Rattle.search.specs.Shown.{IsShownOf, Shown}
-use Rattle.search.specs.Request.{Request}
-use Rattle.search.specs.Prepared.{request_of}
-use Rattle.search.specs.declared.pattern.Prepared.{Prepared}
+use Rattle.search.specs.Shown.{IsShownOf}
+use Rattle.views.specs.Shown.{Shown}
+use Rattle.prepare.specs.Request.{Request}
+use Rattle.prepare.specs.Prepared.{request_of}
+use Rattle.prepare.specs.declared.pattern.Prepared.{Prepared}
 use Rattle.script.specs.Items.{Item, Numbered, numbered, put}
 use Rattle.script.specs.Items as item
-use Rattle.shared.specs.Desk.{DeskState}
-use Rattle.shared.specs.History.{Known}
+use Rattle.published.specs.Desk.{DeskState}
+use Rattle.published.specs.History.{Known}
 use Rattle.transcript.specs.declared.entry.Entry.{Entry}
 use Rattle.transcript.specs.declared.entry.Entry.TheVariants.{Refused, Published, Found, SearchRefused}
 use Rattle.transcript.specs.declared.entry.Reason.{Reason}
@@ -31,7 +33,7 @@ use Rattle.steps.specs.declared.last.Last.{Last}
 use Rattle.steps.specs.Rows.{accepted_by, command_of, version_in, last_or, searches_of, is_sync}
 use Rattle.steps.specs.LegalRows.{IsPut, status_entry}
 use Rattle.steps.specs.Asked.{Asks, IsFaultOf}
-use Rattle.steps.specs.Steps.{OpenSearch, RunState, IsStep, MayTake, last, last_of, asked}
+use Rattle.steps.specs.Steps.{OpenSearch, MayTake, last, last_of, asked}
 use Rattle.steps.specs.Asked as asking
 use Rattle.steps.specs.Steps as steps
 use Rattle.service.specs.declared.taken.Taken.{Taken}
@@ -50,10 +52,6 @@ accepted_in item loaded entry = accepted_by (Some entry) (command_of item.item l
 
 pub prefix_length : {A : Type 0} (xs ys : List A) → IsPrefix xs ys → length xs ≤ length ys
 prefix_length xs ys pre = omega (arith, ap length pre.1, length-append xs pre.0)
-
-last_or-append : (default : ℕ) (xs ys : List ℕ) → last_or default (xs ++ ys) ≡ last_or (last_or default xs) ys
-last_or-append default [] ys = refl
-last_or-append default (x ∷ xs) ys = last_or-append x xs ys
 
 -- the last of some numbers is the default, or one of them
 last_is_one : (default : ℕ) (xs : List ℕ) → (last_or default xs ≡ default) ⊎ Contains xs (last_or default xs)
@@ -490,10 +488,6 @@ refused_put service name body line why entry is legal = rw is (record {
   legal = legal;
   left = ap (λ l. record service { accepted = l }) (sym (append-nil service.accepted));
 })
-
--- what is in the rest of a list is in the list
-pub contains_later : (x : ℕ) (xs : List ℕ) (v : ℕ) → Contains xs v → Contains (x ∷ xs) v
-contains_later x xs v inside = Contains-append_right (x ∷ []) xs v inside
 
 -- after a publish, what is kept was kept before, or is its version
 pub kept_note : (old kept' : List ℕ) (entry : Entry) (line v : ℕ) → entry ≡ Published line v

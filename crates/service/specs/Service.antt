@@ -1,11 +1,12 @@
 -- A service between two steps.
 use Rattle.std.specs.Prelude.{◌≡◌, ℕ, ◌+◌, ◌⊎◌, ◌≤◌, ◌<◌, List, [], ◌∷◌, ◌++◌, length, take, drop, replicate, flat_map, Contains}
-use Rattle.std.specs.Prelude.{Option, Some, true, false, slice_get, slice_set}
+use Rattle.std.specs.Prelude.{Some, true, slice_get, slice_set}
 use Rattle.index.specs.declared.command.Command.{Command}
 use Rattle.index.specs.declared.command.Command.TheVariants.{Put}
 use Rattle.index.specs.State.{state_of}
-use Rattle.search.specs.Request.{Request}
-use Rattle.search.specs.Shown.{IsShownOf, Shown}
+use Rattle.prepare.specs.Request.{Request}
+use Rattle.search.specs.Shown.{IsShownOf}
+use Rattle.views.specs.Shown.{Shown}
 use Rattle.script.specs.Items.{Item, Numbered}
 use Rattle.service.specs.declared.taken.Taken.{Taken}
 use Rattle.service.specs.declared.taken.Taken.TheVariants as taken
@@ -14,7 +15,7 @@ use Rattle.transcript.specs.declared.entry.Entry.TheVariants.{Found, SearchRefus
 use Rattle.transcript.specs.declared.entry.SearchReason.TheVariants as reason
 use Rattle.steps.specs.declared.last.Last.{Last}
 use Rattle.steps.specs.LegalRows.{Limits, IsPut, IsFailedTimes, greatest_failures}
-use Rattle.steps.specs.Rows.{accepted_by, version_in, last_or, failures_in, list_of, searches_of}
+use Rattle.steps.specs.Rows.{accepted_by, version_in, last_or, failures_in, searches_of}
 use Rattle.steps.specs.StepRows.{searches_in}
 use Rattle.steps.specs.Asked.{Asks}
 use Rattle.steps.specs.Steps.{OpenSearch, RunState, IsStep, MayTake, last, last_of}

@@ -2,9 +2,9 @@
 
 use crate::naming::Naming;
 use crate::question::Question;
-use search::Shown;
-use shared::Told;
+use published::Told;
 use std::marker::{Model, PhantomData};
+use views::Shown;
 
 /// What a reader found for a search. It carries the evidence that the answer is right: the texts of the search, and the
 /// commands that were searched. Contracts see it as the number of the search.

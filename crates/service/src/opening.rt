@@ -1,9 +1,9 @@
 //! Services and their readers, opened together.
 
 ghost use Rattle.std.specs.Prelude.{◌≡◌, ℕ, ◌+◌, ◌<◌, ◌≤◌, [], ◌∷◌, All, IfOk, is_some, length, replicate};
-ghost use Rattle.shared.specs.declared.opening.TheConstants.{MAX_COMMANDS};
-ghost use Rattle.shared.specs.Desk.{desk_state};
-ghost use Rattle.shared.specs.History.{known};
+ghost use Rattle.published.specs.declared.opening.TheConstants.{MAX_COMMANDS};
+ghost use Rattle.published.specs.Desk.{desk_state};
+ghost use Rattle.published.specs.History.{known};
 ghost use Rattle.steps.specs.Steps.{last};
 ghost use Rattle.service.specs.Service.{first_service};
 ghost use Rattle.service.specs.Opening.{limits_of, opened_state};
@@ -11,7 +11,7 @@ ghost use Rattle.service.specs.Opening.{limits_of, opened_state};
 use crate::naming::Naming;
 use crate::reader::Reader;
 use crate::service::Service;
-use shared::{Desk, OpenError, Reading, Told};
+use published::{Desk, OpenError, Reading, Told};
 use std::alloc::{AllocError, Global};
 use std::collections::VecDeque;
 use std::marker::{Model, PhantomData};
@@ -32,7 +32,7 @@ pub struct Opened {
 
 impl Model for Opened {
     ghost use Rattle.std.specs.Prelude.{◌≡◌, ◌≤◌, [], All, is_some, length};
-    ghost use Rattle.shared.specs.History.{known};
+    ghost use Rattle.published.specs.History.{known};
     ghost use Rattle.service.specs.Opening.{OpenedState, limits_of, opened_state};
 
     ghost Value = { OpenedState };
@@ -58,7 +58,7 @@ pub fn open<R: Wait>(
     requires readers { readers ≤ 16 }
     ensures { IfOk result (λ opened. opened ≡ opened_state opened.opening (limits_of max_commands (is_some search_ms)) readers) }
 {
-    let (mut desk, mut readings) = shared::open(rt, alloc, max_commands, readers as usize + 1)?;
+    let (mut desk, mut readings) = published::open(rt, alloc, max_commands, readers as usize + 1)?;
     match (readings.pop(), desk.publish(rt)) {
         (Some(reading), Ok(told)) => Ok(Opened {
             desk,

@@ -3,7 +3,7 @@
 ghost use Rattle.std.specs.Prelude.{◌≡◌, IfOk};
 ghost use mathlib.Core.List.{IsPrefix};
 ghost use Rattle.index.specs.State.{state_of};
-ghost use Rattle.search.specs.Prepared.{request_of};
+ghost use Rattle.prepare.specs.Prepared.{request_of};
 ghost use Rattle.search.specs.Shown.{IsShownOf};
 ghost use Rattle.search.specs.Taken.{IsTakenOf};
 
@@ -12,12 +12,14 @@ use crate::gate::{Gate, Point};
 use crate::naming::Naming;
 use crate::tasks::{Request, Task};
 use crate::wish::Look;
-use search::{Prepared, Shown, Taken, Unanswered, Watch};
-use shared::Reading;
+use prepare::Prepared;
+use published::Reading;
+use search::{Taken, Unanswered, Watch};
 use std::alloc::Global;
 use std::marker::PhantomData;
 use std::thread::Threads;
 use std::time::Clock;
+use views::Shown;
 
 /// What answers searches for a service. It can be in another thread.
 #[derive(Drop)]

@@ -4,13 +4,13 @@ ghost use Rattle.std.specs.Prelude.{◌≡◌, ◌≢◌, ℕ, ◌+◌, ◌<◌,
 ghost use mathlib.Core.List.{IsPrefix};
 ghost use Rattle.index.specs.State.{state_of};
 ghost use Rattle.index.specs.Text.{greatest_body};
-ghost use Rattle.search.specs.Prepared.{request_of};
+ghost use Rattle.prepare.specs.Prepared.{request_of};
 ghost use Rattle.search.specs.Shown.{IsShownOf};
 ghost use Rattle.script.specs.Items.{numbered as numbered_item, cancel as cancel_item};
 ghost use Rattle.script.specs.Reading.{shown_item};
-ghost use Rattle.shared.specs.Counts.{AreCountsOf};
-ghost use Rattle.shared.specs.Desk.{desk_state};
-ghost use Rattle.shared.specs.History.{known, Known};
+ghost use Rattle.published.specs.Counts.{AreCountsOf};
+ghost use Rattle.published.specs.Desk.{desk_state};
+ghost use Rattle.published.specs.History.{known, Known};
 ghost use Rattle.transcript.specs.declared.entry.Entry.TheVariants.{Found as found_entry, SearchRefused as refused_entry};
 ghost use Rattle.transcript.specs.declared.entry.SearchReason.TheVariants.{OutOfMemory as out_of_memory, TooSlow as too_slow};
 ghost use Rattle.steps.specs.LegalRows.{status_entry};
@@ -32,9 +32,10 @@ use crate::source::Source;
 use crate::taken::Taken;
 use crate::tasks::{Request, Task};
 use crate::wish::{Look, Wish};
+use prepare::Prepared;
+use published::{Counts, Desk, Reading, Told};
 use script::{Item, Numbered};
-use search::{Prepared, Shown, Unanswered};
-use shared::{Counts, Desk, Reading, Told};
+use search::Unanswered;
 use std::alloc::{AllocError, Global};
 use std::collections::VecDeque;
 use std::marker::{Model, PhantomData};
@@ -42,6 +43,7 @@ use std::sync::Wait;
 use std::time::Clock;
 use steps::Last;
 use transcript::{Entry, Reason, SearchReason};
+use views::Shown;
 
 /// The accepted commands, what was published last, and the open searches. It takes items and answers, one after the
 /// other, and says which entry each gets.

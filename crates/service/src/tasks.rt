@@ -1,7 +1,7 @@
 //! Searches that are ready to be answered.
 
 ghost use Rattle.std.specs.Prelude.{◌≡◌, IfOk, IfErr};
-ghost use Rattle.search.specs.Prepared.{request_of};
+ghost use Rattle.prepare.specs.Prepared.{request_of};
 ghost use Rattle.script.specs.Items.{find};
 ghost use Rattle.script.specs.Reading.{shown_item};
 ghost use Rattle.steps.specs.Rows.{searches_of};
@@ -11,9 +11,9 @@ ghost use Rattle.service.specs.Private.Entries.{IsReasonOfWords, reason_of_fault
 use crate::question::Question;
 use crate::wish::Wish;
 use ere::{EreError, EreErrorKind};
+use prepare::{FindError, Prepared};
 use request::{FindFault, read_find};
 use script::Item;
-use search::{FindError, Prepared};
 use std::alloc::Global;
 use std::marker::Model;
 use transcript::SearchReason;
@@ -29,13 +29,13 @@ pub(crate) struct Request {
 
 impl Model for Request {
     ghost use Rattle.service.specs.Private.Requests.{Asked, asked};
-    ghost use Rattle.search.specs.Prepared.{request_of};
+    ghost use Rattle.prepare.specs.Prepared.{request_of};
     ghost use Rattle.steps.specs.Asked.{Asks};
 
     ghost Value = { Asked };
 
     ghost use Rattle.std.specs.Coded.{codes};
-    ghost use Rattle.search.specs.contracts.pattern.Prepared as patterns;
+    ghost use Rattle.prepare.specs.contracts.pattern.Prepared as patterns;
 
     ghost coded = { Prim.hlevel (codes, patterns.the_row.coded) };
 

@@ -89,8 +89,6 @@ impl<R: Clock> Watch for Look<'_, R> {
     // Other threads call the wish off, and time passes: what it said is in no value that a contract can name.
     ghost has_said_no = { λ _. Unit {0} };
 
-    fn reads(&mut self, _number: u32) {}
-
     fn wants(&mut self) -> bool {
         !self.wish.is_called_off() && !self.wish.is_late(self.rt)
     }

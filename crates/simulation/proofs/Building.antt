@@ -5,29 +5,29 @@ use Rattle.std.proofs.lemmas.Bool.Decides.{nat_tests}
 use Rattle.std.proofs.Common.{◌&&◌, ◌||◌, nat_lt}
 use Rattle.std.proofs.lemmas.List.FromFn.{get_or-map-range_with_len}
 use Rattle.ere.specs.ByteSet.{has, is_line_byte, set_of, union}
-use Rattle.ere.specs.Tree.{Tree, cat, alt, repeat, Trees, none, more}
-use Rattle.spans.specs.Spans.{Relation, Spans, SpansEach, SpansSome, Steps}
+use Rattle.ere.specs.Tree.{Tree, alt, repeat, Trees, none, more}
+use Rattle.spans.specs.Spans.{Relation, Spans, SpansSome}
 use Rattle.simulation.specs.declared.part.Gaps.{Gaps}
 use Rattle.simulation.specs.declared.part.Counts.{Counts}
 use Rattle.simulation.specs.declared.part.Sizes.{Sizes}
-use Rattle.simulation.specs.Parts.{Shape, nothing, both, either, loop, times, is_gap, Chain, Reads, Fits, Suffices}
+use Rattle.simulation.specs.Parts.{Shape, nothing, either, loop, times, is_gap, Chain, Reads, Fits, Suffices}
 use Rattle.simulation.specs.Parts.{set as one_of}
-use Rattle.simulation.specs.Packing.{IsPacked, StandsFor, nowhere, everywhere, gaps_of_both, gaps_of_either, gaps_of_times}
-use Rattle.simulation.proofs.Tests.{and_left, or_cases, or_left, or_right}
+use Rattle.simulation.specs.Packing.{IsPacked, StandsFor, nowhere, everywhere, gaps_of_either, gaps_of_times}
+use Rattle.simulation.proofs.Tests.{or_cases, or_left, or_right}
 use Rattle.simulation.proofs.Forward.{reads_forward}
 use Rattle.spans.proofs.Bits.{false≢true}
-use Rattle.simulation.proofs.Packing.{gap_everywhere, gap_both}
+use Rattle.simulation.proofs.Packing.{everywhere_packed, nowhere_packed}
 use Rattle.std.proofs.Common.{◌^◌, ◌∷◌, drop, is_none, is_some, map, not, rules, Err, IfNone, IfOk, Ok, Result, SomeIff}
 use Rattle.std.proofs.lemmas.List.{at_drop_more, at_drop_all}
 use Rattle.ere.specs.declared.tree.Ere.{Ere}
 use Rattle.ere.specs.Tree.{form, trees_of}
 use Rattle.simulation.specs.Pending.{IsStride, IsWhole, size_of, words_for}
-use Rattle.simulation.specs.declared.pack.Packed.{Packed}
+use Rattle.simulation.specs.declared.sequence.Packed.{Packed}
 use Rattle.simulation.specs.Parts.{shape}
-use Rattle.simulation.specs.Private.Rows.{IsLonger}
-use Rattle.simulation.specs.Packing.{IsEachPart, IsPartFor, IsSomePart, IsTreePart, IsTurns}
-use Rattle.simulation.proofs.Packing.{each_none_packed, some_none_packed}
-use Rattle.simulation.proofs.Packing.{Then, Or, ReadsBoth, both_packed, either_packed, gap_nowhere}
+use Rattle.simulation.specs.Packing.{IsPartFor, IsSomePart, IsTreePart, IsTurns}
+use Rattle.simulation.proofs.Packing.{some_none_packed}
+use Rattle.simulation.proofs.Packing.{Or, either_packed}
+use Rattle.simulation.proofs.Unrolling.{turns_none}
 use Rattle.simulation.proofs.Repeats.{IsEnough, AtMost, repeat_packed, reads_inside}
 
 pub as_part : (words : List ℕ → Relation) (part built : Shape) (gaps given : Gaps) (copies size total : ℕ) → built ≡ part → given ≡ gaps → total ≡ size
@@ -184,87 +184,13 @@ times_part body part gaps least greatest turns copies stride all size own total 
     to_whole line from to words chain fits h =
         (words, chain, fits_of greatest (suc words) refl fits, suffices gaps.inside refl line from to (suc words) h)
 
-pub both_part : (tree : Tree) (trees : Trees) (left right : Shape) (before after : Gaps) (sizes : Sizes) (copies first second total : ℕ)
-    → sizes.own ≡ words_for copies → sizes.first ≡ first → total ≡ sizes.own + (first + second)
-    → IsPartFor (λ line. Spans line tree) left before copies first → IsPartFor (λ line. SpansEach line trees) right after copies second
-    → IsPartFor (λ line. SpansEach line (more tree trees)) (both left right sizes before after) (gaps_of_both before after) copies total
-unfolding SpansEach Reads IsWhole size_of
-both_part tree trees left right before after sizes copies first second total own_is first_is total_is one two = record {
-  packed = then_packed;
-  whole = (own_is, first_is ∙ sym one.sized, one.whole, two.whole);
-  sized =
-      ap (λ n. words_for copies + (n + size_of right copies)) one.sized ∙ ap (λ n. words_for copies + (first + n)) two.sized
-      ∙ ap (λ n. n + (first + second)) (sym own_is) ∙ sym total_is;
-}
-  where
-    base : IsPacked (Then (λ line. Spans line tree) (λ line. SpansEach line trees)) (both left right sizes before after) (gaps_of_both before after)
-    base =
-        both_packed (λ line. Spans line tree) (λ line. SpansEach line trees) left right (both left right sizes before after) before after (λ line from to r. r)
-        (λ line from to r. r) one.packed two.packed
-
-    then_packed : IsPacked (λ line. SpansEach line (more tree trees)) (both left right sizes before after) (gaps_of_both before after)
-    then_packed =
-        record { forward = base.forward; sound = base.sound; complete = base.complete; empty = base.empty; gap = base.gap; steady = base.steady }
-
--- A part and then another, as one part.
-pub row_part : (tree : Tree) (trees : Trees) (left right row : Shape) (before after : Gaps) (copies first second : ℕ)
-    → IsLonger left right before after row copies
-    → IsPartFor (λ line. Spans line tree) left before copies first → IsPartFor (λ line. SpansEach line trees) right after copies second
-    → IsPartFor (λ line. SpansEach line (more tree trees)) row (gaps_of_both before after) copies second
-unfolding SpansEach Reads
-row_part tree trees left right row before after copies first second longer one two =
-    record { packed = then_packed; whole = longer.whole; sized = longer.sized ∙ two.sized }
-  where
-    sizes : Sizes
-    sizes = record { own = 0; first = 0 }
-
-    base : IsPacked (Then (λ line. Spans line tree) (λ line. SpansEach line trees)) row (gaps_of_both before after)
-    base =
-        both_packed (λ line. Spans line tree) (λ line. SpansEach line trees) left right row before after
-        (λ line from to r. (longer.reads sizes line from to).0 r) (λ line from to r. (longer.reads sizes line from to).1 r) one.packed two.packed
-
-    then_packed : IsPacked (λ line. SpansEach line (more tree trees)) row (gaps_of_both before after)
-    then_packed =
-        record { forward = base.forward; sound = base.sound; complete = base.complete; empty = base.empty; gap = base.gap; steady = base.steady }
-
--- A word of nothing but the empty word at the end changes nothing.
-pub first_part : (tree : Tree) (trees : Trees) (left right : Shape) (before after : Gaps) (copies first second : ℕ) → right ≡ nothing → after ≡ everywhere
-    → IsPartFor (λ line. Spans line tree) left before copies first → IsPartFor (λ line. SpansEach line trees) right after copies second
-    → IsPartFor (λ line. SpansEach line (more tree trees)) left before copies first
-unfolding SpansEach Reads
-first_part tree trees left right before after copies first second is_nothing all one two = record { packed = then_packed; whole = one.whole; sized = one.sized }
-  where
-    rest : IsPacked (λ line. SpansEach line trees) nothing everywhere
-    rest = subst (λ p. IsPacked (λ line. SpansEach line trees) p everywhere) is_nothing (subst (λ g. IsPacked (λ line. SpansEach line trees) right g) all two.packed)
-
-    of_whole : (line : List ℕ) (from to : ℕ) → Reads line left from to → ReadsBoth line left nothing before everywhere from to
-    of_whole line from to r = inr (inr (r, gap_everywhere line to))
-
-    to_whole : (line : List ℕ) (from to : ℕ) → ReadsBoth line left nothing before everywhere from to → Reads line left from to
-    to_whole line from to (inl h) = absurd h.2
-    to_whole line from to (inr (inl h)) = absurd h.1
-    to_whole line from to (inr (inr h)) = h.0
-
-    base : IsPacked (Then (λ line. Spans line tree) (λ line. SpansEach line trees)) left (gaps_of_both before everywhere)
-    base = both_packed (λ line. Spans line tree) (λ line. SpansEach line trees) left nothing left before everywhere of_whole to_whole one.packed rest
-
-    then_packed : IsPacked (λ line. SpansEach line (more tree trees)) left before
-    then_packed = record {
-      forward = base.forward;
-      sound = base.sound;
-      complete = base.complete;
-      empty = λ line at h. (at, one.packed.empty line at h, rest.empty line at (gap_everywhere line at));
-      gap = λ line at h. and_left (is_gap before line at) (is_gap everywhere line at) (sym (gap_both before everywhere line at) ∙ base.gap line at h);
-      steady = one.packed.steady;
-    }
-
 pub either_part : (tree : Tree) (trees : Trees) (left right : Shape) (before after : Gaps) (sizes : Sizes) (copies first second total : ℕ)
     → sizes.own ≡ words_for copies → sizes.first ≡ first → total ≡ sizes.own + (first + second)
     → IsPartFor (λ line. Spans line tree) left before copies first → IsPartFor (λ line. SpansSome line trees) right after copies second
     → IsPartFor (λ line. SpansSome line (more tree trees)) (either left right sizes) (gaps_of_either before after) copies total
 unfolding SpansSome Reads IsWhole size_of
 either_part tree trees left right before after sizes copies first second total own_is first_is total_is one two = record {
-  packed = or_packed;
+  packed = base;
   whole = (own_is, first_is ∙ sym one.sized, one.whole, two.whole);
   sized =
       ap (λ n. words_for copies + (n + size_of right copies)) one.sized ∙ ap (λ n. words_for copies + (first + n)) two.sized
@@ -275,9 +201,6 @@ either_part tree trees left right before after sizes copies first second total o
     base =
         either_packed (λ line. Spans line tree) (λ line. SpansSome line trees) left right (either left right sizes) before after (λ line from to r. r)
         (λ line from to r. r) one.packed two.packed
-
-    or_packed : IsPacked (λ line. SpansSome line (more tree trees)) (either left right sizes) (gaps_of_either before after)
-    or_packed = record { forward = base.forward; sound = base.sound; complete = base.complete; empty = base.empty; gap = base.gap; steady = base.steady }
 
 line_again : (line_byte a b : Bool) → (line_byte && (line_byte && ((line_byte && a) || (line_byte && b)))) ≡ ((line_byte && a) || (line_byte && b))
 line_again true a b = refl
@@ -304,7 +227,7 @@ pub union_part : (tree : Tree) (trees : Trees) (left right : Shape) (one two : L
     → IsPartFor (λ line. SpansSome line (more tree trees)) (one_of (union one two)) (gaps_of_either before after) copies first
 unfolding SpansSome Reads IsWhole size_of
 union_part tree trees left right one two before after copies first second left_is right_is head rest =
-    record { packed = or_packed; whole = tt; sized = subst (λ p. size_of p copies ≡ first) left_is head.sized }
+    record { packed = base; whole = tt; sized = subst (λ p. size_of p copies ≡ first) left_is head.sized }
   where
     of_union : (line : List ℕ) (from to : ℕ) → Reads line (one_of (union one two)) from to → Reads line (one_of one) from to ⊎ Reads line (one_of two) from to
     of_union line from to (next, inside, is) =
@@ -325,15 +248,12 @@ union_part tree trees left right one two before after copies first second left_i
         (subst (λ p. IsPacked (λ line. Spans line tree) p before) left_is head.packed)
         (subst (λ p. IsPacked (λ line. SpansSome line trees) p after) right_is rest.packed)
 
-    or_packed : IsPacked (λ line. SpansSome line (more tree trees)) (one_of (union one two)) (gaps_of_either before after)
-    or_packed = record { forward = base.forward; sound = base.sound; complete = base.complete; empty = base.empty; gap = base.gap; steady = base.steady }
-
 -- A word of either part, where the second has none but the empty word.
 pub only_part : (tree : Tree) (trees : Trees) (left right : Shape) (before after : Gaps) (copies first second : ℕ) → right ≡ nothing
     → IsPartFor (λ line. Spans line tree) left before copies first → IsPartFor (λ line. SpansSome line trees) right after copies second
     → IsPartFor (λ line. SpansSome line (more tree trees)) left (gaps_of_either before after) copies first
 unfolding SpansSome Reads
-only_part tree trees left right before after copies first second is_nothing one two = record { packed = or_packed; whole = one.whole; sized = one.sized }
+only_part tree trees left right before after copies first second is_nothing one two = record { packed = base; whole = one.whole; sized = one.sized }
   where
     rest : IsPacked (λ line. SpansSome line trees) nothing after
     rest = subst (λ p. IsPacked (λ line. SpansSome line trees) p after) is_nothing two.packed
@@ -345,39 +265,16 @@ only_part tree trees left right before after copies first second is_nothing one 
     base : IsPacked (Or (λ line. Spans line tree) (λ line. SpansSome line trees)) left (gaps_of_either before after)
     base = either_packed (λ line. Spans line tree) (λ line. SpansSome line trees) left nothing left before after (λ line from to r. inl r) to_whole one.packed rest
 
-    or_packed : IsPacked (λ line. SpansSome line (more tree trees)) left (gaps_of_either before after)
-    or_packed = record { forward = base.forward; sound = base.sound; complete = base.complete; empty = base.empty; gap = base.gap; steady = base.steady }
-
 -- No number of words is in the range.
 pub impossible_packed : (body : Tree) (least most : ℕ) → most < least → StandsFor (repeat body least (Some most)) nothing nowhere
-unfolding Spans Reads
-impossible_packed body least most short = record {
-  forward = λ line from to h. absurd (never h.0 h.1 h.2);
-  sound = λ line from to r. absurd r;
-  complete = λ line from to past h. absurd (never h.0 h.1 h.2);
-  empty = λ line at h. absurd (gap_nowhere line at h);
-  gap = λ line at h. absurd (never h.0 h.1 h.2);
-  steady = λ h. absurd (false≢true h);
-}
-  where
-    never : (count : ℕ) → least ≤ count → count ≤ most → ⊥
-    never count low high = omega arith
+unfolding Spans
+impossible_packed body least most short =
+    nowhere_packed (λ line. Spans line (repeat body least (Some most)))
+    (λ line from to h. (let low : least ≤ h.0 = h.1 in let high : h.0 ≤ most = h.2 in absurd (omega arith)))
 
 -- No word at all is the empty word.
 pub zero_packed : (body : Tree) (least : ℕ) → least ≤ 0 → StandsFor (repeat body least (Some 0)) nothing everywhere
-unfolding Spans Reads Steps
-zero_packed body least low = record {
-  forward = λ line from to h. let same = stays line from to h.0 h.2 h.3 in omega arith;
-  sound = λ line from to r. absurd r;
-  complete = λ line from to past h. let same = stays line from to h.0 h.2 h.3 in absurd (omega arith);
-  empty = λ line at h. (0, low, (let zeros : 0 ≤ 0 = omega arith in zeros), refl);
-  gap = λ line at h. gap_everywhere line at;
-  steady = λ h. (refl, refl);
-}
-  where
-    stays : (line : List ℕ) (from to count : ℕ) → count ≤ 0 → Steps (Spans line body) count from to → from ≡ to
-    stays line from to zero short h = h
-    stays line from to (suc count) short h = absurd (omega arith)
+zero_packed body least low = everywhere_packed (λ line. Spans line (repeat body least (Some 0))) (turns_none body least low)
 
 -- A checked sum that is there is the sum.
 pub sum_is : (answer : Option ℕ) (sum one two : ℕ) → answer ≡ Some sum → SomeIff answer (one + two < 2 ^ 64) (one + two) → sum ≡ one + two
@@ -401,33 +298,15 @@ none_is None false h = absurd (false≢true h)
 none_is (Some x) true h = absurd (false≢true (sym h))
 none_is (Some x) false h = refl
 
-pub cat_part : (trees : Trees) (built : Packed) (copies : ℕ) → IsEachPart trees built copies → IsTreePart (cat trees) built copies
-unfolding Spans
-cat_part trees built copies h = h
-
 pub alt_part : (trees : Trees) (built : Packed) (copies : ℕ) → IsSomePart trees built copies → IsTreePart (alt trees) built copies
 unfolding Spans
 alt_part trees built copies h = h
-
-pub each_start : (members : List Ere) (i : ℕ) (built : Packed) (copies : ℕ) → length members ≤ i → shape built.part ≡ nothing → built.gaps ≡ everywhere
-    → built.size ≡ words_for copies → IsEachPart (trees_of (map form (drop i members))) built copies
-each_start members i built copies past part_is gaps_is size_is =
-    subst (λ trees. IsEachPart trees built copies) (sym (forms_end members i past))
-    (as_part _ nothing _ _ _ copies _ _ part_is gaps_is size_is (nothing_part (λ line. SpansEach line none) everywhere copies each_none_packed))
 
 pub some_start : (members : List Ere) (i : ℕ) (built : Packed) (copies : ℕ) → length members ≤ i → shape built.part ≡ nothing → built.gaps ≡ nowhere
     → built.size ≡ words_for copies → IsSomePart (trees_of (map form (drop i members))) built copies
 some_start members i built copies past part_is gaps_is size_is =
     subst (λ trees. IsSomePart trees built copies) (sym (forms_end members i past))
     (as_part _ nothing _ _ _ copies _ _ part_is gaps_is size_is (nothing_part (λ line. SpansSome line none) nowhere copies some_none_packed))
-
-pub each_more : (members : List Ere) (i : ℕ) (member : Ere) (one rest joined : Packed) (copies : ℕ) → 0 < i → i ≤ length members
-    → member ≡ get_or members (i - 1) member → IsTreePart (form member) one copies → IsEachPart (trees_of (map form (drop i members))) rest copies
-    → ((tree : Tree) (trees : Trees) → IsTreePart tree one copies → IsEachPart trees rest copies → IsEachPart (more tree trees) joined copies)
-    → IsEachPart (trees_of (map form (drop (i - 1) members))) joined copies
-each_more members i member one rest joined copies above within read first others join =
-    subst (λ trees. IsEachPart trees joined copies) (sym (forms_back members i member above within read))
-    (join (form member) (trees_of (map form (drop i members))) first others)
 
 pub some_more : (members : List Ere) (i : ℕ) (member : Ere) (one rest joined : Packed) (copies : ℕ) → 0 < i → i ≤ length members
     → member ≡ get_or members (i - 1) member → IsTreePart (form member) one copies → IsSomePart (trees_of (map form (drop i members))) rest copies
@@ -436,11 +315,6 @@ pub some_more : (members : List Ere) (i : ℕ) (member : Ere) (one rest joined :
 some_more members i member one rest joined copies above within read first others join =
     subst (λ trees. IsSomePart trees joined copies) (sym (forms_back members i member above within read))
     (join (form member) (trees_of (map form (drop i members))) first others)
-
-pub cat_result : {E : Type 0} (trees : Trees) (copies : ℕ) (r : Result Packed E) → IfOk r (λ built. IsEachPart trees built copies)
-    → IfOk r (λ built. IsTreePart (cat trees) built copies)
-cat_result trees copies (Ok built) h = cat_part trees built copies h
-cat_result trees copies (Err e) h = tt
 
 pub alt_result : {E : Type 0} (trees : Trees) (copies : ℕ) (r : Result Packed E) → IfOk r (λ built. IsSomePart trees built copies)
     → IfOk r (λ built. IsTreePart (alt trees) built copies)

@@ -395,14 +395,6 @@ pub run_long : (line : List ℕ) (here : ℕ) (masks : List ℕ) (places : Place
 unfolding size_of IsWhole
 run_long line here masks places copies entered cells ready = (ready.inside, ready.whole, ready.entered_all, ready.cells_all)
 
-pub whole_run : (masks : List ℕ) (places : Places) (copies : ℕ) → IsWhole (run masks places) copies → IsRun masks places copies
-unfolding IsWhole
-whole_run masks places copies whole = whole
-
-pub whole_left : (left right : Shape) (sizes : Sizes) (before after : Gaps) (copies : ℕ) → IsWhole (both left right sizes before after) copies → IsWhole left copies
-unfolding IsWhole
-whole_left left right sizes before after copies whole = whole.2
-
 pub even_in : (copies stride own : ℕ) (cells : List ℕ) → own ≡ words_for copies → length cells ≡ own → IsStride copies stride
     → IsNarrow stride ⊎ (stride ≡ room cells)
 even_in copies stride own cells own_is long is = go is.even

@@ -8,6 +8,8 @@ pub mod Cuts
 pub mod Ranks
 pub mod Runs
 pub mod Masks
+pub mod Rows
+pub mod Sequences
 pub mod Packing
 pub mod Repeats
 pub mod Building

@@ -1,10 +1,11 @@
 -- The turns of a repeat in words of cells.
 use Rattle.std.proofs.Common.{◌≡◌, ◌≢◌, ℕ, zero, suc, ◌+◌, ◌-◌, ◌*◌, ◌/◌, ◌%◌, ◌^◌, ◌<◌, ◌≤◌, Bool, true, false, ◌&&◌, ◌||◌, ◌==◌, if◌then◌else◌, nat_lt, nat_le}
-use Rattle.std.proofs.Common.{IsTrue, List, length, get_or, set, drop, ◌⊎◌, ◌↔◌, inl, inr, refl, sym, ap, ◌∙◌, arith, bit_and, bit_or, nat_eq}
-use Rattle.std.proofs.lemmas.List.{get_or-drop}
+use Rattle.std.proofs.Common.{IsTrue, List, length, get_or, set, ◌⊎◌, ◌↔◌, inl, inr, refl, sym, ap, ◌∙◌, arith, bit_and, bit_or, nat_eq}
 use Rattle.std.proofs.lemmas.Nat.{mod-mul-add, mul-add-lt}
 use Rattle.std.proofs.Math.Nat.{mul-le-mul_right}
+use Rattle.std.proofs.lemmas.Bool.{eqb-false, eqb-true, le-leb, leb-false, leb-true, ltb-false, ltb-true}
 use Rattle.std.proofs.lemmas.Bool.Decides.{nat_tests}
+use Rattle.std.proofs.Math.Bool.{and-false}
 use Rattle.std.proofs.lemmas.Nat.{shr-shr}
 use Rattle.std.proofs.lemmas.Nat.Bits.{bit_at_above}
 use Rattle.ere.specs.Bits.{has_bit}
@@ -16,36 +17,6 @@ use Rattle.simulation.proofs.Tests.{or_cases, or_left, or_right, and_left, and_r
 use Rattle.simulation.proofs.Forward.{at_or_past, le_or_lt}
 use Rattle.simulation.specs.Private.Words.{AreWritten, AreChanged, shifted, repeated}
 use Rattle.simulation.proofs.Words.{written_more, changed_more, word_is, first_written}
-
-lt_of : (a b : ℕ) → nat_lt a b ≡ true → a < b
-lt_of a b e = grind (arith, nat_tests)
-
-not_lt_of : (a b : ℕ) → nat_lt a b ≡ false → b ≤ a
-not_lt_of a b e = grind (arith, nat_tests)
-
-le_of : (a b : ℕ) → nat_le a b ≡ true → a ≤ b
-le_of a b e = grind (arith, nat_tests)
-
-not_le_of : (a b : ℕ) → nat_le a b ≡ false → b < a
-not_le_of a b e = grind (arith, nat_tests)
-
-lt_is : (a b : ℕ) → a < b → nat_lt a b ≡ true
-lt_is a b h = grind (arith, nat_tests)
-
-not_lt_is : (a b : ℕ) → b ≤ a → nat_lt a b ≡ false
-not_lt_is a b h = grind (arith, nat_tests)
-
-le_is : (a b : ℕ) → a ≤ b → nat_le a b ≡ true
-le_is a b h = grind (arith, nat_tests)
-
-not_le_is : (a b : ℕ) → b < a → nat_le a b ≡ false
-not_le_is a b h = grind (arith, nat_tests)
-
-eq_of : (a b : ℕ) → (a == b) ≡ true → a ≡ b
-eq_of a b e = grind (arith, nat_tests)
-
-not_eq_of : (a b : ℕ) → (a == b) ≡ false → a ≢ b
-not_eq_of a b e = grind (arith, nat_tests)
 
 pub moved_down_is : (word count b : ℕ) → has_bit (word / 2 ^ count) b ≡ has_bit word (count + b)
 moved_down_is word count b = ap (λ n. n % 2 == 1) (shr-shr word count b)
@@ -122,9 +93,9 @@ moving_first stride entered read out carried few low high = record {
 moving_bit : (stride : ℕ) (entered read : List ℕ) (i carried b : ℕ) → b < 64 → stride < 64
     → ((b : ℕ) → b < stride → has_bit carried b ≡ shifted stride entered read (i * 64 + b)) → (t : Bool) → nat_lt b stride ≡ t
     → (if t then has_bit carried b else has_bit (get_or read i 0) (b - stride)) ≡ shifted stride entered read (i * 64 + b)
-moving_bit stride entered read i carried b bit few low true e = low b (lt_of b stride e)
+moving_bit stride entered read i carried b bit few low true e = low b (ltb-true b stride e)
 moving_bit stride entered read i carried b bit few low false e =
-    let above : stride ≤ b = not_lt_of b stride e in
+    let above : stride ≤ b = ltb-false b stride e in
     let fits : b - stride < 64 = omega arith in
     let past : stride ≤ i * 64 + b = omega arith in
     let same : i * 64 + (b - stride) ≡ i * 64 + b - stride = omega arith in
@@ -213,10 +184,6 @@ repeated_first stride entered to j = sym (ap (λ t. at to j || t) (none (nat_lt 
     none true e false f = refl
     none false e s f = refl
 
-and_none : (h : Bool) → (h && false) ≡ false
-and_none true = refl
-and_none false = refl
-
 pub repeated_more : (stride k : ℕ) (entered before to next : List ℕ) (held : Bool) → stride ≤ k
     → ((j : ℕ) → at to j ≡ (at before j || (nat_lt j k && repeated stride entered j))) → held ≡ at entered (k % stride)
     → ((j : ℕ) → at next j ≡ (at to j || (held && j == k))) → (j : ℕ) → at next j ≡ (at before j || (nat_lt j (k + 1) && repeated stride entered j))
@@ -226,7 +193,7 @@ repeated_more stride k entered before to next held high so_far held_is set_one j
     join : (a b : Bool) → ((a || b) || (held && false)) ≡ (a || b)
     join true b = refl
     join false true = refl
-    join false false = and_none held
+    join false false = and-false held
 
     merge : (a h : Bool) → ((a || (false && repeated stride entered j)) || (h && true)) ≡ (a || h)
     merge true h = refl
@@ -300,12 +267,12 @@ begun_turns counts gap entered read out some all_is each turn k inside low = (th
 
     from_moved : (t : Bool) → nat_lt place counts.stride ≡ t → IsTrue moved → Enters counts gap entered read turn k
     from_moved true e h =
-        let below : place < counts.stride = lt_of place counts.stride e in
+        let below : place < counts.stride = ltb-true place counts.stride e in
         let zero_is : turn ≡ 0 = first_turn turn refl below in
         let same : place ≡ k = ap (λ n. n * counts.stride + k) zero_is ∙ omega arith in
         enters.first zero_is (ap (at entered) (sym same) ∙ sym (shifted_low counts.stride entered read place below) ∙ h)
     from_moved false e h =
-        let above : counts.stride ≤ place = not_lt_of place counts.stride e in
+        let above : counts.stride ≤ place = ltb-false place counts.stride e in
         later turn refl above h
 
     last_turn : counts.all - counts.stride ≤ place → suc turn ≡ counts.copies
@@ -326,7 +293,7 @@ begun_turns counts gap entered read out some all_is each turn k inside low = (th
                 | inr l ↦
                     (let rest = and_right counts.unbounded (nat_le (counts.all - counts.stride) place && at read place) l in
                     let high : counts.all - counts.stride ≤ place =
-                    le_of (counts.all - counts.stride) place (and_left (nat_le (counts.all - counts.stride) place) (at read place) rest) in
+                    leb-true (counts.all - counts.stride) place (and_left (nat_le (counts.all - counts.stride) place) (at read place) rest) in
                     enters.again (and_left counts.unbounded (nat_le (counts.all - counts.stride) place && at read place) l) (last_turn high)
                     (and_right (nat_le (counts.all - counts.stride) place) (at read place) rest))
               ]
@@ -347,7 +314,7 @@ begun_turns counts gap entered read out some all_is each turn k inside low = (th
         (and_both gap (repeated counts.stride entered place) g
         (and_both (nat_le counts.stride place) (at entered (place % counts.stride)) e (ap (at entered) (mod-mul-add turn counts.stride k low) ∙ is)))
     spread g is false e =
-        let below : place < counts.stride = not_le_of counts.stride place e in
+        let below : place < counts.stride = leb-false counts.stride place e in
         let zero_is : turn ≡ 0 = first_turn turn refl below in
         let same : place ≡ k = ap (λ n. n * counts.stride + k) zero_is ∙ omega arith in
         or_left (moved || last) (gap && repeated counts.stride entered place)
@@ -370,7 +337,7 @@ begun_turns counts gap entered read out some all_is each turn k inside low = (th
     back (enters.again free e is) =
         let total : counts.all ≡ counts.stride + turn * counts.stride = all_is ∙ ap (λ n. n * counts.stride) (sym e) ∙ omega arith in
         let high : counts.all - counts.stride ≤ place = omega arith in
-        let test : nat_le (counts.all - counts.stride) place ≡ true = le_is (counts.all - counts.stride) place high in
+        let test : nat_le (counts.all - counts.stride) place ≡ true = le-leb (counts.all - counts.stride) place high in
         each place within
         ∙ or_left (moved || last) (gap && repeated counts.stride entered place)
         (or_right moved last
@@ -429,13 +396,6 @@ before_all counts lowest turn cells k held reached within past so_far = (
   λ any. so_far.1 (any.0, any.1, (let under = any.2 in let below : any.0 < turn = omega arith in below), any.3),
 )
 
-pub at_drop : (cells : List ℕ) (words k : ℕ) → at (drop words cells) k ≡ at cells (64 * words + k)
-at_drop cells words k =
-    let place : k / 64 * 64 + k % 64 ≡ k = omega arith in
-    let bit : k % 64 < 64 = omega arith in
-    let same : (words + k / 64) * 64 + k % 64 ≡ 64 * words + k = omega arith in
-    position_is (drop words cells) k ∙ ap (λ n. has_bit n (k % 64)) (get_or-drop words cells (k / 64) 0) ∙ word_is cells (words + k / 64) (k % 64) bit ∙ ap (at cells) same
-
 pub set_one : (cells : List ℕ) (k j : ℕ) → k / 64 < length cells
     → at (set cells (k / 64) (bit_or (get_or cells (k / 64) 0) (1 * 2 ^ (k % 64) % 2 ^ 64))) j ≡ (at cells j || j == k)
 set_one cells k j inside = go (nat_eq (j / 64) (k / 64)) refl
@@ -448,24 +408,24 @@ set_one cells k j inside = go (nat_eq (j / 64) (k / 64)) refl
 
     same_test : j / 64 ≡ k / 64 → (t : Bool) → (j % 64 == k % 64) ≡ t → (s : Bool) → (j == k) ≡ s → t ≡ s
     same_test e true f true g = refl
-    same_test e true f false g = let a = eq_of (j % 64) (k % 64) f in absurd (not_eq_of j k g (omega arith))
-    same_test e false f true g = let a = eq_of j k g in absurd (not_eq_of (j % 64) (k % 64) f (omega arith))
+    same_test e true f false g = let a = eqb-true (j % 64) (k % 64) f in absurd (eqb-false j k g (omega arith))
+    same_test e false f true g = let a = eqb-true j k g in absurd (eqb-false (j % 64) (k % 64) f (omega arith))
     same_test e false f false g = refl
 
     far_test : j / 64 ≢ k / 64 → (s : Bool) → (j == k) ≡ s → s ≡ false
-    far_test other true g = let a = eq_of j k g in absurd (other (omega arith))
+    far_test other true g = let a = eqb-true j k g in absurd (other (omega arith))
     far_test other false g = refl
 
     go : (t : Bool) → nat_eq (j / 64) (k / 64) ≡ t → at (set cells (k / 64) word) j ≡ (at cells j || j == k)
     go true e =
-        let there : j / 64 ≡ k / 64 = eq_of (j / 64) (k / 64) e in
+        let there : j / 64 ≡ k / 64 = eqb-true (j / 64) (k / 64) e in
         let place : k / 64 * 64 + j % 64 ≡ j = omega arith in
         let low : j % 64 < 64 = omega arith in
         ap (at (set cells (k / 64) word)) (sym place) ∙ position_set_same cells (k / 64) word (j % 64) inside low
         ∙ has_with (get_or cells (k / 64) 0) (k % 64) (j % 64) bit ∙ ap (λ t. t || j % 64 == k % 64) (word_is cells (k / 64) (j % 64) low ∙ ap (at cells) place)
         ∙ ap (λ t. at cells j || t) (same_test there (j % 64 == k % 64) refl (j == k) refl)
     go false e =
-        let other : j / 64 ≢ k / 64 = not_eq_of (j / 64) (k / 64) e in
+        let other : j / 64 ≢ k / 64 = eqb-false (j / 64) (k / 64) e in
         position_set_other cells (k / 64) word j other ∙ sym (ap (λ t. at cells j || t) (far_test other (j == k) refl) ∙ or_none (at cells j))
 
 pub added_if : (on : Bool) (a b : Bool) → on ≡ false → a ≡ (a || (on && b))

@@ -1,5 +1,6 @@
 -- Runs in a word of cells.
 use Rattle.std.proofs.Common.{◌≡◌, ℕ, zero, suc, ◌+◌, ◌-◌, ◌*◌, ◌<◌, ◌≤◌, ◌^◌, Bool, true, false, ◌==◌, ◌&&◌, ◌||◌, if◌then◌else◌, nat_lt, IsTrue, List, length, get_or, set, ◌⊎◌, ◌↔◌, inl, inr, refl, sym, ap, subst, ◌∙◌, arith}
+use Rattle.std.proofs.lemmas.Bool.{le-ltb, lt-ltb}
 use Rattle.std.proofs.lemmas.Bool.Decides.{nat_tests}
 use Rattle.std.proofs.lemmas.Nat.{mul-add-lt}
 use Rattle.std.proofs.lemmas.Nat.Bits.{bit_at_above}
@@ -17,12 +18,6 @@ use Rattle.simulation.proofs.Words.{first_word, first_written}
 -- The cells of a set lie below those of the sets before it.
 pub below : (left after stride k : ℕ) → left < after → k < stride → left * stride + k < after * stride
 below left after stride k low inside = omega (arith, mul-add-lt left stride k after low inside)
-
-lt_is : (a b : ℕ) → a < b → nat_lt a b ≡ true
-lt_is a b h = grind (arith, nat_tests)
-
-not_lt_is : (a b : ℕ) → b ≤ a → nat_lt a b ≡ false
-not_lt_is a b h = grind (arith, nat_tests)
 
 -- What waits before a byte: the cells, and what is entered in the place above them.
 pub record Waits (places : Places) (entered cells : List ℕ) (waiting : ℕ) : Type 0 where
@@ -45,7 +40,7 @@ waits_are places entered cells first waiting begun kept first_is fits small bits
         let low : left * places.stride + k < first = omega arith in
         let bit : left * places.stride + k < 64 = omega arith in
         bits (left * places.stride + k) bit
-        ∙ ap (λ t. if t then has_bit kept (left * places.stride + k) else has_bit begun (left * places.stride + k - first)) (lt_is (left * places.stride + k) first low)
+        ∙ ap (λ t. if t then has_bit kept (left * places.stride + k) else has_bit begun (left * places.stride + k - first)) (lt-ltb (left * places.stride + k) first low)
         ∙ kept_bits (left * places.stride + k) low ∙ first_word cells (left * places.stride + k) bit
 
     entered_is : (k : ℕ) → k < places.stride → has_bit waiting (suc places.after * places.stride + k) ≡ at entered k
@@ -56,7 +51,7 @@ waits_are places entered cells first waiting begun kept first_is fits small bits
         let low : k < 64 = omega arith in
         bits (suc places.after * places.stride + k) bit
         ∙ ap (λ t. if t then has_bit kept (suc places.after * places.stride + k) else has_bit begun (suc places.after * places.stride + k - first))
-        (not_lt_is (suc places.after * places.stride + k) first past)
+        (le-ltb (suc places.after * places.stride + k) first past)
         ∙ ap (has_bit begun) same ∙ begun_bits k inside ∙ first_word entered k low
 
     none : (bit : ℕ) → suc places.after * places.stride + places.stride ≤ bit → IsTrue (has_bit waiting bit) → ⊥
@@ -69,7 +64,7 @@ waits_are places entered cells first waiting begun kept first_is fits small bits
             let far : places.stride ≤ bit - first = omega arith in
             false≢true
             (sym
-            (bits bit low ∙ ap (λ t. if t then has_bit kept bit else has_bit begun (bit - first)) (not_lt_is bit first past) ∙ begun_none (bit - first) far)
+            (bits bit low ∙ ap (λ t. if t then has_bit kept bit else has_bit begun (bit - first)) (le-ltb bit first past) ∙ begun_none (bit - first) far)
             ∙ h)
         go false e =
             let above : 64 ≤ bit = grind (arith, nat_tests) in

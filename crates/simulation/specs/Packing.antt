@@ -1,11 +1,15 @@
 -- Which part stands for a tree.
-use Rattle.std.specs.Prelude.{◌≡◌, ℕ, ◌≤◌, ◌<◌, Bool, true, false, ◌&&◌, ◌||◌, if◌then◌else◌, ◌==◌, IsTrue, List, Option, IfSome, IfNone}
+use Rattle.std.specs.Prelude.{◌≡◌, ℕ, ◌≤◌, ◌<◌, Bool, true, false, ◌&&◌, ◌||◌, if◌then◌else◌, ◌==◌, IsTrue, List, Option, IfSome, IfNone, ◌⊎◌}
 use Rattle.ere.specs.Tree.{Tree, Trees}
-use Rattle.spans.specs.Spans.{Relation, Spans, SpansEach, SpansSome}
+use Rattle.spans.specs.Spans.{Relation, Spans, SpansSome}
 use Rattle.simulation.specs.declared.part.Gaps.{Gaps}
-use Rattle.simulation.specs.declared.pack.Packed.{Packed}
+use Rattle.simulation.specs.declared.sequence.Packed.{Packed}
 use Rattle.simulation.specs.Parts.{Shape, shape, Reads, is_gap}
 use Rattle.simulation.specs.Pending.{IsWhole, size_of}
+
+-- the words of a part, and the empty word where the gaps say
+abbrev pub WordsAt : Shape → Gaps → List ℕ → Relation
+WordsAt part gaps line from to = Reads line part from to ⊎ ((from ≡ to) × IsTrue (is_gap gaps line from))
 
 -- The words of the part and the gaps together are the words that a relation has in each line.
 pub record IsPacked (words : List ℕ → Relation) (part : Shape) (gaps : Gaps) : Type 0 where
@@ -19,10 +23,6 @@ pub record IsPacked (words : List ℕ → Relation) (part : Shape) (gaps : Gaps)
 -- The part and the gaps stand for a tree.
 abbrev pub StandsFor : Tree → Shape → Gaps → Type 0
 StandsFor tree part gaps = IsPacked (λ line. Spans line tree) part gaps
-
--- They stand for a word of each tree, one after the other.
-abbrev pub StandsForEach : Trees → Shape → Gaps → Type 0
-StandsForEach trees part gaps = IsPacked (λ line. SpansEach line trees) part gaps
 
 -- They stand for a word of one of the trees.
 abbrev pub StandsForSome : Trees → Shape → Gaps → Type 0
@@ -63,10 +63,6 @@ pub record IsPartFor (words : List ℕ → Relation) (part : Shape) (gaps : Gaps
 -- A part that is built stands for the words of a tree.
 abbrev pub IsTreePart : Tree → Packed → ℕ → Type 0
 IsTreePart tree built copies = IsPartFor (λ line. Spans line tree) (shape built.part) built.gaps copies built.size
-
--- A part that is built stands for several trees: a word of it is a word of each, one after the other.
-abbrev pub IsEachPart : Trees → Packed → ℕ → Type 0
-IsEachPart trees built copies = IsPartFor (λ line. SpansEach line trees) (shape built.part) built.gaps copies built.size
 
 -- A part that is built stands for several trees: a word of it is a word of one of them.
 abbrev pub IsSomePart : Trees → Packed → ℕ → Type 0

@@ -1,5 +1,5 @@
 -- What the cells of a part hold at a position of the line: the words that have begun and are not read to their end.
-use Rattle.std.specs.Prelude.{◌≡◌, ℕ, suc, ◌+◌, ◌*◌, ◌/◌, ◌<◌, ◌≤◌, ◌↔◌, Bool, false, IsTrue, List, length, slice_index, take, drop, ◌⊎◌}
+use Rattle.std.specs.Prelude.{◌≡◌, ℕ, suc, ◌+◌, ◌*◌, ◌/◌, ◌<◌, ◌≤◌, Bool, false, IsTrue, List, length, slice_index, take, drop, ◌⊎◌}
 use Rattle.ere.specs.Bits.{has_bit}
 use Rattle.spans.specs.PositionSets.{has_position}
 use Rattle.simulation.specs.declared.part.Counts.{Counts}
@@ -127,7 +127,6 @@ pub record IsRun (masks : List ℕ) (places : Places) (copies : ℕ) : Type 0 wh
       → has_bit (slice_index masks byte) (left * copies + copy) ≡ has_bit (slice_index masks byte) (left * copies)
   pub optional : IsSpread places.optional places.after copies
   pub repeated : IsSpread places.repeated places.after copies
-  pub empty : IsTrue places.empty ↔ ((left : ℕ) → left ≤ places.after → IsTrue (has_bit places.optional (left * copies)))
 
 -- The numbers that a part keeps are those of this many copies.
 unfoldable pub IsWhole : Shape → ℕ → Type 0

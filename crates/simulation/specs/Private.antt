@@ -1,4 +1,5 @@
 -- What only the contracts of private functions cite.
 pub mod Words
 pub mod Rows
+pub mod Sequences
 pub mod Reading

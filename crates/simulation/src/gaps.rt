@@ -95,7 +95,12 @@ pub(crate) fn are_same(one: Gaps, two: Gaps) -> bool
 pub(crate) fn first_gap(gaps: Gaps, line: &[u8], whole_words: bool) -> Option<usize>
     ensures { MatchOption result (HasNoFreeGap gaps line.now whole_words) (IsFirstGap gaps line.now whole_words) }
 {
-    for at in 0..line.len() + 1 {
+    if is_free_gap(gaps, line, whole_words, 0) {
+        return Some(0);
+    }
+    // Between two bytes it is everywhere or nowhere.
+    let next = if gaps.inside { 1 } else { line.len() };
+    for at in next..line.len() + 1 {
         if is_free_gap(gaps, line, whole_words, at) {
             return Some(at);
         }

@@ -8,6 +8,7 @@ mod gaps;
 mod pack;
 mod part;
 mod run;
+mod sequence;
 mod simulation;
 mod step;
 mod turns;

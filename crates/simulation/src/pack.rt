@@ -2,30 +2,18 @@
 
 ghost use Rattle.std.specs.Prelude.{◌≡◌, ℕ, ◌+◌, ◌-◌, ◌*◌, ◌≤◌, ◌<◌, IfOk, IfSome, IsTrue, None, Some, map, if◌then◌else◌};
 ghost use Rattle.ere.specs.Tree.{form, trees_of, repeat, Tree, Trees, more};
-ghost use Rattle.simulation.specs.Parts.{nothing, set, shape};
-ghost use Rattle.simulation.specs.Packing.{everywhere, gaps_of_both, gaps_of_either, gaps_of_times, only_at, IsEachPart, IsSomePart, IsTreePart, IsTurns, nowhere};
-ghost use Rattle.simulation.specs.Pending.{IsStride, IsWhole, words_for};
-ghost use Rattle.simulation.specs.Private.Rows.{IsRow};
+ghost use Rattle.spans.specs.Spans.{Spans, SpansEach};
+ghost use Rattle.simulation.specs.Packing.{gaps_of_either, gaps_of_times, nowhere, IsSomePart, IsTreePart, IsTurns};
+ghost use Rattle.simulation.specs.Pending.{IsStride};
+ghost use Rattle.simulation.specs.Private.Sequences.{GoesOn, IsSequence};
 
 use crate::cells::{BITS, words_for};
-use crate::gaps::{
-    are_same, both_gaps, either_gaps, everywhere, is_everywhere, nowhere, only_at, times_gaps,
-};
+use crate::gaps::{either_gaps, everywhere, nowhere, only_at, times_gaps};
 use crate::part::{Counts, Gaps, Part, Sizes};
-use crate::run::{Row, longer, row_of, set_of};
+use crate::run::set_of;
+use crate::sequence::{Packed, Sequence, is_nothing, no_bytes, no_sequence, settled, then};
 use ere::Ere;
 use std::alloc::{AllocError, Global};
-
-/// A part, how many words its cells take, and where its tree has the empty word.
-#[derive(Drop)]
-pub(crate) struct Packed {
-    /// The part.
-    pub(crate) part: Part,
-    /// How many words of 64 bits its cells take, with those of its members.
-    pub(crate) size: usize,
-    /// Where its tree has the empty word.
-    pub(crate) gaps: Gaps,
-}
 
 /// The part for some copies of a tree.
 ///
@@ -44,24 +32,131 @@ pub(crate) fn pack(alloc: Global, tree: &Ere, copies: usize) -> Result<Packed, A
         }),
         Ere::Start => Ok(no_bytes(copies, only_at(true, false))),
         Ere::End => Ok(no_bytes(copies, only_at(false, true))),
-        Ere::Cat(members) => pack_each(alloc, members, copies),
+        Ere::Cat(members) => {
+            let all = then_each(alloc, no_sequence(alloc, copies), members, copies)?;
+            settled(alloc, all, copies)
+        }
         Ere::Alt(members) => pack_some(alloc, members, copies),
-        Ere::Repeat(body, least, greatest) => pack_repeat(alloc, body, *least, *greatest, copies),
+        Ere::Repeat(body, least, greatest) => {
+            let all = then_repeat(
+                alloc,
+                no_sequence(alloc, copies),
+                body,
+                *least,
+                *greatest,
+                copies,
+            )?;
+            settled(alloc, all, copies)
+        }
     }
 }
 
-/// The part for a word of each member, one after the other.
+/// The sequence, and then a word of a tree.
 #[cycle(pack)]
-fn pack_each(alloc: Global, members: &[Ere], copies: usize) -> Result<Packed, AllocError>
-    requires { 0 < copies }
-    ensures { IfOk result (λ packed. IsEachPart (trees_of (map form members.now)) packed copies) }
+fn then_tree(
+    alloc: Global,
+    sequence: Sequence,
+    tree: &Ere,
+    copies: usize,
+) -> Result<Sequence, AllocError>
+    requires some { 0 < copies }
+    requires valid { IsSequence sequence copies }
+    ensures { IfOk result (λ longer. GoesOn (λ line. Spans line (form tree.now)) sequence longer copies) }
 {
-    let mut rest = no_bytes(copies, everywhere());
-    for i in (0..members.len()).rev() {
-        let member = pack(alloc, &members[i], copies)?;
-        rest = both(alloc, member, rest, copies)?;
+    match tree {
+        Ere::Cat(members) => then_each(alloc, sequence, members, copies),
+        Ere::Repeat(body, least, greatest) => {
+            then_repeat(alloc, sequence, body, *least, *greatest, copies)
+        }
+        _ => {
+            let one = pack(alloc, tree, copies)?;
+            then(alloc, sequence, one, copies)
+        }
     }
-    Ok(rest)
+}
+
+/// The sequence, and then a word of each member.
+#[cycle(pack)]
+fn then_each(
+    alloc: Global,
+    sequence: Sequence,
+    members: &[Ere],
+    copies: usize,
+) -> Result<Sequence, AllocError>
+    requires some { 0 < copies }
+    requires valid { IsSequence sequence copies }
+    ensures { IfOk result (λ longer. GoesOn (λ line. SpansEach line (trees_of (map form members.now))) sequence longer copies) }
+{
+    let mut longer = sequence;
+    for i in 0..members.len() {
+        longer = then_tree(alloc, longer, &members[i], copies)?;
+    }
+    Ok(longer)
+}
+
+/// The sequence, and then at least `least` words of the body and at most `greatest`.
+#[cycle(pack)]
+fn then_repeat(
+    alloc: Global,
+    sequence: Sequence,
+    body: &Ere,
+    least: u8,
+    greatest: Option<u8>,
+    copies: usize,
+) -> Result<Sequence, AllocError>
+    requires some { 0 < copies }
+    requires valid { IsSequence sequence copies }
+    ensures { IfOk result (λ longer. GoesOn (λ line. Spans line (repeat (form body.now) least greatest)) sequence longer copies) }
+{
+    match turns_in_row(body, least, greatest, copies) {
+        Some(most) => then_turns(alloc, sequence, body, least, most, copies),
+        None => {
+            let one = pack_repeat(alloc, body, least, greatest, copies)?;
+            then(alloc, sequence, one, copies)
+        }
+    }
+}
+
+/// The sequence, and then the body `most` times, of which those beyond the least number can be left out.
+#[cycle(pack)]
+fn then_turns(
+    alloc: Global,
+    sequence: Sequence,
+    body: &Ere,
+    least: u8,
+    most: u8,
+    copies: usize,
+) -> Result<Sequence, AllocError>
+    requires some { 0 < copies }
+    requires ordered { least ≤ most }
+    requires valid { IsSequence sequence copies }
+    ensures { IfOk result (λ longer. GoesOn (λ line. Spans line (repeat (form body.now) least (Some most))) sequence longer copies) }
+{
+    let mut longer = sequence;
+    for turn in 0..most {
+        longer = then_turn(alloc, longer, body, turn < least, copies)?;
+    }
+    Ok(longer)
+}
+
+/// The sequence, and then a word of the body, which can be left out unless it is needed.
+#[cycle(pack)]
+fn then_turn(
+    alloc: Global,
+    sequence: Sequence,
+    body: &Ere,
+    needed: bool,
+    copies: usize,
+) -> Result<Sequence, AllocError>
+    requires some { 0 < copies }
+    requires valid { IsSequence sequence copies }
+    ensures { IfOk result (λ longer. GoesOn (λ line. Spans line (repeat (form body.now) (if needed then 1 else 0) (Some 1))) sequence longer copies) }
+{
+    if needed {
+        return then_tree(alloc, sequence, body, copies);
+    }
+    let one = pack(alloc, body, copies)?;
+    then(alloc, sequence, once(one, 0), copies)
 }
 
 /// The part for a word of one of the members.
@@ -102,7 +197,7 @@ fn pack_repeat(
                 let one = pack(alloc, body, copies)?;
                 return Ok(once(one, least));
             }
-            pack_count(alloc, body, least, most, copies)
+            pack_times(alloc, body, least, Some(most), most, copies)
         }
         None => {
             if least > 1 {
@@ -112,29 +207,6 @@ fn pack_repeat(
             looped(alloc, one, least, copies)
         }
     }
-}
-
-/// The part for at most `most` words: a run, if one word of cells has room for it.
-#[cycle(pack)]
-fn pack_count(
-    alloc: Global,
-    body: &Ere,
-    least: u8,
-    most: u8,
-    copies: usize,
-) -> Result<Packed, AllocError>
-    requires copies { 0 < copies }
-    requires some { 1 < most }
-    requires ordered { least ≤ most }
-    ensures { IfOk result (λ packed. IsTreePart (repeat (form body.now) least (Some most)) packed copies) }
-{
-    if copies <= BITS / (most as usize + 1) {
-        let one = pack(alloc, body, copies)?;
-        if let Some(row) = unrolled(alloc, &one, least, most, copies)? {
-            return Ok(row);
-        }
-    }
-    pack_times(alloc, body, least, Some(most), most, copies)
 }
 
 /// The part for a number of words that takes more than one turn.
@@ -162,68 +234,62 @@ fn pack_times(
     times(alloc, one, least, greatest, turns, copies, stride, all)
 }
 
-/// At most `most` words of a body as one run: the body that many times, of which those beyond the least number can be left
-/// out. Nothing if that is no run, or if a word of cells has no room for it.
-fn unrolled(
-    alloc: Global,
-    body: &Packed,
-    least: u8,
-    most: u8,
-    copies: usize,
-) -> Result<Option<Packed>, AllocError>
-    requires copies { 0 < copies }
-    requires ordered { least ≤ most }
-    requires body { (tree : Tree) × IsTreePart tree body.now copies }
-    ensures { IfOk result (λ found. IfSome found (λ packed. (tree : Tree) → IsTreePart tree body.now copies → IsTreePart (repeat tree least (Some most)) packed copies)) }
+/// The greatest number of words, if that many words of the body are a row of places for which one word of cells has room.
+fn turns_in_row(body: &Ere, least: u8, greatest: Option<u8>, copies: usize) -> Option<u8>
+    requires { 0 < copies }
+    ensures { IfSome result (λ most. (greatest ≡ Some most) × (least ≤ most)) }
 {
-    let mut rest = no_bytes(copies, everywhere());
-    for i in (0..most as usize).rev() {
-        let Some(word) = word_of(alloc, body, least_at(i, least), copies)? else {
-            return Ok(None);
-        };
-        rest = both(alloc, word, rest, copies)?;
-        if !is_run(&rest.part) {
-            return Ok(None);
+    let most = greatest?;
+    if most < least {
+        return None;
+    }
+    let places = places_in(body);
+    if places > 1 && least < most || places.saturating_mul(most as usize) >= BITS / copies {
+        return None;
+    }
+    Some(most)
+}
+
+/// How many places the tree is, or at least as many as a word has bits if it is no row of places.
+#[cycle(places_in)]
+fn places_in(tree: &Ere) -> usize {
+    if is_set(tree) {
+        return 1;
+    }
+    match tree {
+        Ere::Cat(members) => {
+            let mut places = 0usize;
+            for i in 0..members.len() {
+                places = places.saturating_add(places_in(&members[i]));
+            }
+            places
         }
-    }
-    Ok(Some(rest))
-}
-
-/// How many words are needed after so many others, one or none, if there have to be `least` of them.
-fn least_at(before: usize, least: u8) -> u8
-    ensures small { result ≤ 1 }
-    ensures sum { result + (least - (before + 1)) ≡ least - before }
-{
-    if before < least as usize { 1 } else { 0 }
-}
-
-/// One word of a body as a run, which can be left out if none is needed. Nothing if that is no run.
-fn word_of(
-    alloc: Global,
-    body: &Packed,
-    least: u8,
-    copies: usize,
-) -> Result<Option<Packed>, AllocError>
-    requires copies { 0 < copies }
-    requires small { least ≤ 1 }
-    requires whole { IsWhole (shape body.now.part) copies }
-    ensures { IfOk result (λ found. IfSome found (λ word. (tree : Tree) → IsTreePart tree body.now copies → IsTreePart (repeat tree least (Some 1)) word copies)) }
-{
-    let gaps = times_gaps(least, body.gaps);
-    match row_of(alloc, &body.part, gaps, copies)? {
-        Some(row) => Ok(Some(Packed {
-            part: Part::Run(row.masks, row.places),
-            size: body.size,
-            gaps,
-        })),
-        None => Ok(None),
+        Ere::Repeat(body, least, None) if *least <= 1 && is_set(body) => 1,
+        Ere::Repeat(body, least, Some(most)) => {
+            let places = places_in(body);
+            if places == 1 || least == most {
+                places.saturating_mul(*most as usize)
+            } else {
+                BITS
+            }
+        }
+        _ => BITS,
     }
 }
 
-/// Whether the part is a run.
-fn is_run(part: &Part) -> bool {
-    match part {
-        Part::Run(_, _) => true,
+/// Whether the tree is packed as one set.
+#[cycle(is_set)]
+fn is_set(tree: &Ere) -> bool {
+    match tree {
+        Ere::Set(_) => true,
+        Ere::Alt(members) => {
+            for i in 0..members.len() {
+                if !is_set(&members[i]) {
+                    return false;
+                }
+            }
+            true
+        }
         _ => false,
     }
 }
@@ -302,95 +368,6 @@ fn looped(alloc: Global, one: Packed, least: u8, copies: usize) -> Result<Packed
     })
 }
 
-/// A word of one part and then a word of another. Sets in a row become one part, also if they can be left out or repeated.
-fn both(alloc: Global, first: Packed, second: Packed, copies: usize) -> Result<Packed, AllocError>
-    requires some { 0 < copies }
-    requires first { IsWhole (shape first.part) copies }
-    requires second { IsWhole (shape second.part) copies }
-    ensures { IfOk result (λ packed. (tree : Tree) (trees : Trees) → IsTreePart tree first copies → IsEachPart trees second copies → IsEachPart (more tree trees) packed copies) }
-{
-    if is_nothing(&second.part) && is_everywhere(second.gaps) {
-        return Ok(first);
-    }
-    match row_of(alloc, &first.part, first.gaps, copies)? {
-        Some(row) => row_before(alloc, &row, first, second, copies),
-        None => pair(alloc, first, second, copies),
-    }
-}
-
-/// A word of a run and then one of a part.
-fn row_before(
-    alloc: Global,
-    row: &Row,
-    first: Packed,
-    second: Packed,
-    copies: usize,
-) -> Result<Packed, AllocError>
-    requires some { 0 < copies }
-    requires whole { IsWhole (shape second.part) copies }
-    requires row { IsRow row.now (shape first.part) first.gaps copies }
-    ensures { IfOk result (λ packed. (tree : Tree) (trees : Trees) → IsTreePart tree first copies → IsEachPart trees second copies → IsEachPart (more tree trees) packed copies) }
-{
-    let whole_gaps = both_gaps(first.gaps, second.gaps);
-    let Packed { part, size, gaps } = second;
-    match part {
-        Part::Both(left, right, sizes, before, after) => {
-            if are_same(gaps, both_gaps(before, after)) {
-                if let Some(whole) = longer(alloc, row, &left, before, copies)? {
-                    let before = both_gaps(first.gaps, before);
-                    return Ok(Packed {
-                        part: Part::Both(Box::new(alloc, whole)?, right, sizes, before, after),
-                        size,
-                        gaps: whole_gaps,
-                    });
-                }
-            }
-            let rest = Packed {
-                part: Part::Both(left, right, sizes, before, after),
-                size,
-                gaps,
-            };
-            pair(alloc, first, rest, copies)
-        }
-        part => {
-            if let Some(whole) = longer(alloc, row, &part, gaps, copies)? {
-                return Ok(Packed {
-                    part: whole,
-                    size,
-                    gaps: whole_gaps,
-                });
-            }
-            let rest = Packed { part, size, gaps };
-            pair(alloc, first, rest, copies)
-        }
-    }
-}
-
-/// A word of one part and then a word of another, as two members.
-fn pair(alloc: Global, first: Packed, second: Packed, copies: usize) -> Result<Packed, AllocError>
-    ensures { IfOk result (λ packed. (tree : Tree) (trees : Trees) → IsTreePart tree first copies → IsEachPart trees second copies → IsEachPart (more tree trees) packed copies) }
-{
-    let own = words_for(copies);
-    let Some(members) = first.size.checked_add(second.size) else {
-        return Err(AllocError);
-    };
-    let Some(size) = own.checked_add(members) else {
-        return Err(AllocError);
-    };
-    let gaps = both_gaps(first.gaps, second.gaps);
-    let sizes = Sizes {
-        own,
-        first: first.size,
-    };
-    let left = Box::new(alloc, first.part)?;
-    let right = Box::new(alloc, second.part)?;
-    Ok(Packed {
-        part: Part::Both(left, right, sizes, first.gaps, second.gaps),
-        size,
-        gaps,
-    })
-}
-
 /// A word of either part. Two sets become one.
 fn either(alloc: Global, first: Packed, second: Packed, copies: usize) -> Result<Packed, AllocError>
     ensures { IfOk result (λ packed. (tree : Tree) (trees : Trees) → IsTreePart tree first copies → IsSomePart trees second copies → IsSomePart (more tree trees) packed copies) }
@@ -430,29 +407,6 @@ fn either(alloc: Global, first: Packed, second: Packed, copies: usize) -> Result
         size,
         gaps,
     })
-}
-
-/// A part without words, and where the empty word is.
-fn no_bytes(copies: usize, gaps: Gaps) -> Packed
-    ensures part { shape result.part ≡ nothing }
-    ensures size { result.size ≡ words_for copies }
-    ensures gaps { result.gaps ≡ gaps }
-{
-    Packed {
-        part: Part::Nothing,
-        size: words_for(copies),
-        gaps,
-    }
-}
-
-/// Whether the part has no words.
-fn is_nothing(part: &Part) -> bool
-    ensures { IsTrue result → shape part.now ≡ nothing }
-{
-    match part {
-        Part::Nothing => true,
-        _ => false,
-    }
 }
 
 /// The stride of some copies, or nothing if it is greater than any number.

@@ -38,8 +38,6 @@ pub struct Places {
     pub optional: u64,
     /// The cells of the sets of which there can be more bytes than one.
     pub repeated: u64,
-    /// Whether all sets can be left out.
-    pub empty: bool,
 }
 
 /// How often the body of `Part::Times` is read.

@@ -1,16 +1,13 @@
 //! Sets in a row: one word of cells, with some bits for each set.
 
-ghost use Rattle.std.specs.Prelude.{◌≡◌, ℕ, ◌+◌, ◌-◌, ◌*◌, ◌<◌, ◌≤◌, ◌↔◌, ◌⊎◌, ◌&&◌, false, if◌then◌else◌, nat_lt, IsTrue, length, slice_index, IfOk, IfSome};
+ghost use Rattle.std.specs.Prelude.{◌≡◌, ℕ, ◌+◌, ◌*◌, ◌<◌, ◌≤◌, ◌↔◌, ◌⊎◌, ◌∷◌, [], false, if◌then◌else◌, IsTrue, length, slice_index, IfOk, IfSome};
 ghost use Rattle.ere.specs.Bits.{has_bit};
-ghost use Rattle.ere.specs.ByteSet.{has};
-ghost use Rattle.simulation.specs.Parts.{Shape, run, set, shape};
+ghost use Rattle.simulation.specs.Parts.{set, shape};
 ghost use Rattle.simulation.specs.Packing.{everywhere, nowhere};
-ghost use Rattle.simulation.specs.Pending.{IsRun, IsWhole};
-ghost use Rattle.simulation.specs.Private.Rows.{AreMasks, IsLonger, IsPlace, IsRow, Passes};
-ghost use Rattle.simulation.specs.declared.part.Gaps.{Gaps as GapsValue};
+ghost use Rattle.simulation.specs.Private.Rows.{gaps_of_row, is_marked, AreMasks, IsMarked, IsPlace, IsRunOf, Passes};
 
-use crate::cells::{BITS, both, either, word_if};
-use crate::gaps::{is_everywhere, is_nowhere};
+use crate::cells::{BITS, both, either, word_if, words_for};
+use crate::gaps::{everywhere, is_everywhere, is_nowhere, nowhere};
 use crate::part::{Gaps, Part, Places};
 use crate::turns::{lowest_bits, moved_down, moved_in};
 use ere::ByteSet;
@@ -30,11 +27,15 @@ pub(crate) struct Place {
     pub(crate) repeated: bool,
 }
 
-/// The sets of a run, with a mask for each byte.
-#[derive(Drop)]
-pub(crate) struct Row {
-    pub(crate) masks: Vec<u64>,
-    pub(crate) places: Places,
+/// What is asked of a place.
+#[derive(Clone, Copy)]
+pub(crate) enum Mark {
+    /// Whether its set has a byte.
+    Has(u8),
+    /// Whether it can be left out.
+    Optional,
+    /// Whether there can be more bytes of it than one.
+    Repeated,
 }
 
 /// The word, with each bit also moved down by strides as long as `passed` has the bits that it comes to.
@@ -103,34 +104,6 @@ pub(crate) fn set_of(part: &Part) -> Option<ByteSet>
     }
 }
 
-/// The part as a run. `None` if it is no place or run, or if a word has no room for it.
-///
-/// An `Err` means that memory ran out.
-pub(crate) fn row_of(
-    alloc: Global,
-    part: &Part,
-    gaps: Gaps,
-    copies: usize,
-) -> Result<Option<Row>, AllocError>
-    requires some { 0 < copies }
-    requires whole { IsWhole (shape part.now) copies }
-    ensures { IfOk result (λ found. IfSome found (λ row. IsRow row (shape part.now) gaps copies)) }
-{
-    if let Part::Run(masks, places) = part {
-        if !is_gap_of(places.empty, gaps) {
-            return Ok(None);
-        }
-        return Ok(Some(Row {
-            masks: masks.to_vec(alloc)?,
-            places: *places,
-        }));
-    }
-    match place_of(part, gaps) {
-        Some(place) => one_place(alloc, &place, copies),
-        None => Ok(None),
-    }
-}
-
 /// Whether the empty word is everywhere or nowhere, as `empty` says.
 fn is_gap_of(empty: bool, gaps: Gaps) -> bool
     ensures { IsTrue result → gaps ≡ (if empty then everywhere else nowhere) }
@@ -142,117 +115,90 @@ fn is_gap_of(empty: bool, gaps: Gaps) -> bool
     }
 }
 
-/// A place as a run of its own. `None` if a word has no room for it. An `Err` means that memory ran out.
-fn one_place(alloc: Global, place: &Place, copies: usize) -> Result<Option<Row>, AllocError>
-    requires { 0 < copies }
-    ensures { IfOk result (λ found. IfSome found (λ row. (part : Shape) (gaps : GapsValue) → IsPlace place.now part gaps → IsRow row part gaps copies)) }
+/// Where all places of a row can be left out: everywhere or nowhere.
+pub(crate) fn gaps_of_row(row: &[Place]) -> Gaps
+    ensures { result ≡ gaps_of_row row.now }
 {
-    if copies > BITS / 2 {
-        return Ok(None);
+    for i in 0..row.len() {
+        if !row[i].optional {
+            return nowhere();
+        }
     }
-    let masks = masks_of(alloc, &place.members)?;
-    let places = Places {
-        stride: copies,
-        after: 0,
-        optional: marks(place.optional, copies),
-        repeated: marks(place.repeated, copies),
-        empty: place.optional,
-    };
-    Ok(Some(Row { masks, places }))
+    everywhere()
 }
 
-/// A run and then a part, as one run. `None` if the part is no place or run, or if a word has no room for both.
-///
-/// An `Err` means that memory ran out.
-pub(crate) fn longer(
-    alloc: Global,
-    row: &Row,
-    part: &Part,
-    gaps: Gaps,
-    copies: usize,
-) -> Result<Option<Part>, AllocError>
+/// The places as one part. An `Err` means that memory ran out.
+pub(crate) fn run_of(alloc: Global, row: &[Place], copies: usize) -> Result<Part, AllocError>
+    requires some { (0 < length row.now) × (0 < copies) }
+    requires fits { length row.now * copies + copies ≤ 64 }
+    ensures { IfOk result (λ part. IsRunOf row.now (shape part) copies) }
+{
+    if row.len() == 1 {
+        return one_place(alloc, &row[0], copies);
+    }
+    let masks = masks_of(alloc, row, copies)?;
+    let places = Places {
+        stride: copies,
+        after: row.len() - 1,
+        optional: marks(row, Mark::Optional, copies),
+        repeated: marks(row, Mark::Repeated, copies),
+    };
+    Ok(Part::Run(masks, places))
+}
+
+/// One place as a part, which takes less time than a run. An `Err` means that memory ran out.
+fn one_place(alloc: Global, place: &Place, copies: usize) -> Result<Part, AllocError>
+    ensures { IfOk result (λ part. IsRunOf (place.now ∷ []) (shape part) copies) }
+{
+    let set = Part::Set(place.members);
+    if !place.repeated {
+        return Ok(set);
+    }
+    Ok(Part::Loop(Box::new(alloc, set)?, words_for(copies)))
+}
+
+/// For each byte, which of the places have it.
+fn masks_of(alloc: Global, row: &[Place], copies: usize) -> Result<Vec<u64>, AllocError>
     requires some { 0 < copies }
-    requires run { IsRun row.now.masks.items row.now.places copies }
-    requires whole { IsWhole (shape part.now) copies }
-    ensures { IfOk result (λ found. IfSome found (λ whole. (first : Shape) (before : GapsValue) → IsRow row.now first before copies → IsLonger first (shape part.now) before gaps (shape whole) copies)) }
+    requires fits { length row.now * copies + copies ≤ 64 }
+    ensures { IfOk result (λ masks. AreMasks masks.items copies row.now) }
 {
-    match row_of(alloc, part, gaps, copies)? {
-        Some(rest) => joined(alloc, row, &rest, copies),
-        None => Ok(None),
+    let mut masks = vec![in alloc; 0; BYTES]?;
+    for byte in 0..BYTES {
+        masks[byte] = marks(row, Mark::Has(byte as u8), copies);
     }
+    Ok(masks)
 }
 
-/// Two runs as one, or nothing if a word has no room for both.
-fn joined(alloc: Global, row: &Row, rest: &Row, copies: usize) -> Result<Option<Part>, AllocError>
-    requires first { IsRun row.now.masks.items row.now.places copies }
-    requires second { IsRun rest.now.masks.items rest.now.places copies }
-    ensures { IfOk result (λ found. IfSome found (λ whole. (first second : Shape) (before after : GapsValue) → IsRow row.now first before copies → IsRow rest.now second after copies → IsLonger first second before after (shape whole) copies)) }
+/// A bit for each copy of the places that have the mark.
+fn marks(row: &[Place], mark: Mark, copies: usize) -> u64
+    requires some { 0 < copies }
+    requires fits { length row.now * copies + copies ≤ 64 }
+    ensures { IsMarked result copies (is_marked mark) row.now }
 {
-    let low = rest.places.after * copies + copies;
-    let high = row.places.after * copies + copies;
-    if low + high + copies > BITS {
-        return Ok(None);
+    let mut found = 0;
+    for i in 0..row.len() {
+        found = moved_in(found, marks_of(&row[i], mark, copies), copies);
     }
-    let masks = joined_masks(alloc, &row.masks, &rest.masks, low)?;
-    let places = Places {
-        stride: copies,
-        after: row.places.after + rest.places.after + 1,
-        optional: joined_words(row.places.optional, rest.places.optional, low),
-        repeated: joined_words(row.places.repeated, rest.places.repeated, low),
-        empty: both_hold(row.places.empty, rest.places.empty),
-    };
-    Ok(Some(Part::Run(masks, places)))
+    found
 }
 
-/// Whether both hold.
-fn both_hold(one: bool, other: bool) -> bool
-    ensures { result ≡ (one && other) }
-{
-    one && other
-}
-
-/// A bit for each copy if `on`, and no bit otherwise.
-fn marks(on: bool, copies: usize) -> u64
+/// A bit for each copy of one place, if it has the mark.
+fn marks_of(place: &Place, mark: Mark, copies: usize) -> u64
     requires { (0 < copies) × (copies < 64) }
-    ensures { (b : ℕ) → b < 64 → has_bit result b ≡ (on && nat_lt b copies) }
+    ensures low { (b : ℕ) → b < copies → has_bit result b ≡ is_marked mark place.now }
+    ensures high { (b : ℕ) → copies ≤ b → has_bit result b ≡ false }
 {
-    word_if(on, lowest_bits(!0, copies))
+    word_if(has_mark(place, mark), lowest_bits(!0, copies))
 }
 
-/// The lowest bits of the second word, and then the bits of the first.
-fn joined_words(first: u64, second: u64, low: usize) -> u64
-    requires { (0 < low) × (low < 64) }
-    ensures { (b : ℕ) → b < 64 → has_bit result b ≡ (if nat_lt b low then has_bit second b else has_bit first (b - low)) }
+/// Whether the place has the mark.
+fn has_mark(place: &Place, mark: Mark) -> bool
+    ensures { result ≡ is_marked mark place.now }
 {
-    moved_in(first, lowest_bits(second, low), low)
-}
-
-/// The masks of one set, with the same bit for each cell.
-fn masks_of(alloc: Global, members: &ByteSet) -> Result<Vec<u64>, AllocError>
-    ensures { IfOk result (λ masks. AreMasks masks.items (λ byte bit. has members.now byte)) }
-{
-    let mut masks = vec![in alloc; 0; BYTES]?;
-    for byte in 0..BYTES {
-        masks[byte] = word_if(members.has(byte as u8), !0);
+    match mark {
+        Mark::Has(byte) => place.members.has(byte),
+        Mark::Optional => place.optional,
+        Mark::Repeated => place.repeated,
     }
-    Ok(masks)
-}
-
-/// The masks of two runs in one, where the second has the lowest bits.
-fn joined_masks(
-    alloc: Global,
-    first: &[u64],
-    second: &[u64],
-    low: usize,
-) -> Result<Vec<u64>, AllocError>
-    requires low { (0 < low) × (low < 64) }
-    requires first { length first.now ≡ 256 }
-    requires second { length second.now ≡ 256 }
-    ensures { IfOk result (λ masks. AreMasks masks.items (λ byte bit. if nat_lt bit low then has_bit (slice_index second.now byte) bit else has_bit (slice_index first.now byte) (bit - low))) }
-{
-    let mut masks = vec![in alloc; 0; BYTES]?;
-    for byte in 0..BYTES {
-        masks[byte] = joined_words(first[byte], second[byte], low);
-    }
-    Ok(masks)
 }

@@ -109,8 +109,9 @@ impl Simulation {
     /// The least position of an empty match, from 0 to the line's length, or `None` if there is none. With `whole_words` only
     /// positions count with no letter, digit or `_` right before them and right after them.
     ///
-    /// Whether a position has the empty match is known without reading. So this takes as long as a look at each position up
-    /// to the one that is found. Nothing is allocated, and there are no errors.
+    /// Whether a position has the empty match is known without reading, and between two bytes all have it or none. So this
+    /// takes as long as a look at both ends of the line or, with `whole_words` and an empty match between two bytes, at each
+    /// position up to the one that is found. Nothing is allocated, and there are no errors.
     pub fn first_empty(&self, line: &[u8], whole_words: bool) -> Option<usize>
         requires { (tree : Tree) × IsSimulationOf tree self.now }
         ensures { (tree : Tree) → IsSimulationOf tree self.now

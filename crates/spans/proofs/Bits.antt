@@ -3,22 +3,16 @@ use Rattle.std.proofs.Common.{◌≡◌, ◌≢◌, ℕ, ◌+◌, ◌-◌, ◌*�
 use Rattle.std.proofs.Common.{List, length, get_or, set, refl, sym, ap, ◌∙◌, arith, w64}
 use Rattle.std.proofs.lemmas.List.{get_or-set_same, get_or-set_other}
 use Rattle.std.proofs.lemmas.Bool.Decides.{nat_tests}
-use Rattle.std.proofs.lemmas.Nat.{shr-shr, and_le_l, pow_pos}
-use Rattle.std.proofs.lemmas.Nat.Bits.{bit_at-zero, bit_at_lowest, bit_at_above, bit_at_ones, bit_at_ones_above, ones_shr}
+use Rattle.std.proofs.lemmas.Nat.{and_le_l, pow_pos}
+use Rattle.std.proofs.lemmas.Nat.Bits.{bit_at_above, bit_at_ones, bit_at_ones_above, ones_shr}
 use Rattle.std.proofs.lemmas.Nat.Bits.{bit_at-trailing_zeros, bit_at_cat_low, bit_at_cat_high}
 use Rattle.std.specs.Prelude.{bit_and, bit_or}
 use Rattle.std.specs.Int.{bit_at, bit_not, trailing_zeros}
+pub use Rattle.std.proofs.Math.Bool.{or-false as or_none, and-true as and_all}
+pub use Rattle.std.proofs.lemmas.Bool.{false≢true, false_from_ne_true as is_false}
 use Rattle.ere.proofs.Bits.{has_or, has_zero, has_cleared}
 use Rattle.ere.specs.Bits.{has_bit}
 use Rattle.spans.specs.PositionSets.{has_position}
-
-pub false≢true : false ≡ true → ⊥
-false≢true h = cc
-
--- what is not true is false
-pub is_false : (b : Bool) → (IsTrue b → ⊥) → b ≡ false
-is_false true h = absurd (h refl)
-is_false false h = refl
 
 -- the lowest bit of a word that is not 0
 pub some_bit : (word : ℕ) → 0 < word → word < 2 ^ 64 → (trailing_zeros w64 word < 64) × IsTrue (has_bit word (trailing_zeros w64 word))
@@ -71,10 +65,6 @@ moved_lowest word carried small =
 one_small : (carried b : ℕ) → carried < 2 → has_bit carried (b + 1) ≡ false
 one_small carried b small = ap (λ n. n == 1) (bit_at_above carried 1 (b + 1) (omega arith) (omega arith))
 
-pub or_none : (t : Bool) → (t || false) ≡ t
-or_none true = refl
-or_none false = refl
-
 pub moved_others : (word carried b : ℕ) → word < 2 ^ 64 → carried < 2 → b < 63 → has_bit (bit_or (word * 2 ^ 1 % 2 ^ 64) carried) (b + 1) ≡ has_bit word b
 moved_others word carried b small bit inside =
     let back : b + 1 - 1 ≡ b = omega arith in
@@ -84,19 +74,6 @@ moved_others word carried b small bit inside =
     bit_at_cat_high (word % 2 ^ 63) 1 0 (b + 1) (omega arith) (omega arith) ∙ ap (λ n. bit_at (word % 2 ^ 63) n) back ∙ low in
     has_or (word * 2 ^ 1 % 2 ^ 64) carried (b + 1) ∙ ap (λ t. has_bit (word * 2 ^ 1 % 2 ^ 64) (b + 1) || t) (one_small carried b bit)
     ∙ or_none (has_bit (word * 2 ^ 1 % 2 ^ 64) (b + 1)) ∙ ap (λ n. has_bit n (b + 1)) (moved_word word small) ∙ ap (λ n. n == 1) up
-
-pub highest_is : (word : ℕ) → has_bit (word / 2 ^ 63) 0 ≡ has_bit word 63
-highest_is word = ap (λ n. n == 1) (bit_at_lowest (word / 2 ^ 63))
-
-pub highest_small : (word : ℕ) → word < 2 ^ 64 → word / 2 ^ 63 < 2
-highest_small word small = omega arith
-
--- If a word shifted down by `bit` is 0, it has no bit from there on.
-pub none_from : (word bit b : ℕ) → word / 2 ^ bit ≡ 0 → bit ≤ b → has_bit word b ≡ false
-none_from word bit b none far =
-    let sum : bit + (b - bit) ≡ b = omega arith in
-    let moved : bit_at word b ≡ bit_at (word / 2 ^ bit) (b - bit) = sym (ap (λ n. n % 2) (shr-shr word bit (b - bit)) ∙ ap (λ n. bit_at word n) sum) in
-    ap (λ n. n == 1) (moved ∙ ap (λ n. bit_at n (b - bit)) none ∙ bit_at-zero (b - bit))
 
 -- Position 64 i + b is bit b of word i.
 pub position_in : (words : List ℕ) (i b : ℕ) → b < 64 → has_position words (i * 64 + b) ≡ has_bit (get_or words i 0) b
@@ -123,14 +100,6 @@ position_set_same words i word b inside within = position_in (set words i word) 
 
 pub position_set_other : (words : List ℕ) (i word k : ℕ) → k / 64 ≢ i → has_position (set words i word) k ≡ has_position words k
 position_set_other words i word k other = same_word (set words i word) words k (get_or-set_other words i (k / 64) word 0 other)
-
--- each position is a bit of a word
-pub split_position : (k : ℕ) → (k / 64 * 64 + k % 64 ≡ k) × (k % 64 < 64)
-split_position k = (omega arith, omega arith)
-
-pub and_all : (t : Bool) → (t && true) ≡ t
-and_all true = refl
-and_all false = refl
 
 -- `word << at`
 pub has_moved_to : (word at b : ℕ) → b < 64 → has_bit (word * 2 ^ at % 2 ^ 64) b ≡ (nat_le at b && has_bit word (b - at))

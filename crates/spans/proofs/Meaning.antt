@@ -1,7 +1,7 @@
 -- The language by positions is the language of the tree.
 use Rattle.std.proofs.Common.{◌≡◌, ℕ, zero, suc, ◌+◌, ◌≤◌, ◌<◌, IsTrue, List, [], ◌∷◌, ◌++◌, length, get_or, take, drop, inl, inr, refl, sym, ap}
 use Rattle.std.proofs.Common.{subst, ◌∙◌, arith, append_assoc, length-append}
-use Rattle.std.proofs.lemmas.List.{append-nil, take-append-drop, length-take-le}
+use Rattle.std.proofs.lemmas.List.{append-nil, take-append-drop, length-take-le, nil_from_length}
 use Rattle.std.proofs.Math.Seq.{get_or-append_seam}
 use Rattle.ere.specs.ByteSet.{has}
 use Rattle.ere.specs.Tree.{Tree, empty, set, at_start, at_end, cat, alt, repeat, Trees, none, more}
@@ -101,10 +101,6 @@ copies_of_steps line language relation one (suc count) x z from to whole at h =
     (copies_of_steps line language relation one count x z from h.0 whole at h.1) (λ x' z' e at'. one x' z' h.0 to e at' h.2)
     (λ u v y p q. (u, v, refl, p, q))
 
-no_bytes : (x : List ℕ) → length x ≡ 0 → x ≡ []
-no_bytes [] e = refl
-no_bytes (b ∷ x) e = absurd (omega arith)
-
 -- the byte after x
 next_byte : (line x z : List ℕ) → line ≡ x ++ z → length x < length line → (y : List ℕ) × (z ≡ get_or line (length x) 0 ∷ y)
 next_byte line x [] whole inside = absurd (omega (arith, ap length whole, length-append {A = ℕ} x []))
@@ -125,9 +121,9 @@ mutual
         is_end = h.0 ∙ omega (arith, length-append x (get_or line (length x) 0 ∷ []));
         in_language = (get_or line (length x) 0, refl, subst (λ n. IsTrue (has members (get_or line n 0))) (sym at) h.2);
       }
-  language_of_spans line at_start x z from to whole at h = leads_nowhere (InLanguage at_start) x z to (at ∙ h.1) (no_bytes x (at ∙ h.0), refl)
+  language_of_spans line at_start x z from to whole at h = leads_nowhere (InLanguage at_start) x z to (at ∙ h.1) (nil_from_length x (at ∙ h.0), refl)
   language_of_spans line at_end x z from to whole at h =
-      leads_nowhere (InLanguage at_end) x z to (at ∙ h.1) (refl, no_bytes z (omega (arith, ap length whole, length-append x z, h.0)))
+      leads_nowhere (InLanguage at_end) x z to (at ∙ h.1) (refl, nil_from_length z (omega (arith, ap length whole, length-append x z, h.0)))
   language_of_spans line (cat members) x z from to whole at h = each_of_spans line members x z from to whole at h
   language_of_spans line (alt members) x z from to whole at h = some_of_spans line members x z from to whole at h
   language_of_spans line (repeat body least greatest) x z from to whole at h =

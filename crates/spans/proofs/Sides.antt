@@ -2,12 +2,12 @@
 use Rattle.std.proofs.Common.{◌≡◌, ℕ, zero, suc, ◌≤◌, ◌<◌, Bool, true, false, ◌&&◌, nat_lt, IsTrue, IsFalse}
 use Rattle.std.proofs.Common.{List, length, get_or, refl, subst, arith}
 use Rattle.std.proofs.lemmas.Bool.Decides.{nat_tests}
+use Rattle.std.proofs.lemmas.Bool.{false≢true}
 use Rattle.ere.specs.Classes.{is_word_byte}
 use Rattle.ere.specs.Tree.{Tree}
 use Rattle.spans.specs.FirstSpan.{IsMatchAt, IsWhole}
 use Rattle.spans.specs.Sides.{is_word_after, is_word_before}
 use Rattle.spans.specs.Spans.{Spans}
-use Rattle.spans.proofs.Bits.{false≢true}
 use Rattle.spans.proofs.Meaning.{spans_within}
 
 -- what is right before and after a part that is whole

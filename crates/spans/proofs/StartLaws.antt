@@ -1,12 +1,12 @@
 -- Laws of where matches begin.
 use Rattle.std.proofs.Common.{◌≡◌, ℕ, ◌≤◌, Bool, true, false, IsTrue, MatchOption, Option, Some, None, List, length, refl, arith}
+use Rattle.std.proofs.lemmas.Bool.{false≢true}
 use Rattle.ere.specs.Edges.{ContainsWholeWord}
 use Rattle.ere.specs.Language.{ContainsMatch}
 use Rattle.ere.specs.Tree.{Tree}
 use Rattle.spans.specs.FirstSpan.{IsMatchAt, IsWhole}
 use Rattle.spans.specs.FirstStart.{HasNoStart, IsFirstStart}
 use Rattle.spans.specs.Spans.{Spans}
-use Rattle.spans.proofs.Bits.{false≢true}
 use Rattle.spans.proofs.Meaning.{hit_of_spans, spans_of_hit, spans_within}
 use Rattle.spans.proofs.SpanLaws.{whole_by_positions}
 

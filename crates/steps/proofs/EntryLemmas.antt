@@ -1,7 +1,7 @@
 -- What the entries of items can be, and that they are legal.
 use Rattle.std.proofs.Common.{◌≡◌, ℕ, ◌+◌, ◌≤◌, Bool, true, false, List, [], Option, Some, None, refl, sym, ap, subst, arith}
 use Rattle.index.specs.State.{State}
-use Rattle.search.specs.Request.{Request}
+use Rattle.prepare.specs.Request.{Request}
 use Rattle.script.specs.Items.{Item, put, load, remove, publish, search, search_in, find, sync, cancel, status, bad_line, bad_put, truncated, body_not_closed}
 use Rattle.transcript.specs.declared.entry.Entry.{Entry}
 use Rattle.transcript.specs.declared.entry.Entry.TheVariants.{Accepted, Refused, Published, Found, SearchRefused}
@@ -13,7 +13,7 @@ use Rattle.steps.specs.Rows.{version_in, last_or, is_sync, searches_of, count_se
 use Rattle.steps.specs.LegalRows.{IsRoomFor, IsNamed, HasBody, HasLoaded, IsRemove, IsPublish, Limits, Context, search_number, state_before}
 use Rattle.steps.specs.LegalRows.{IsSearched, IsUnknown, IsStatus, IsCommandEntry, IsEntryOf, HasEntry}
 use Rattle.steps.specs.LegalRows as legal
-use Rattle.steps.specs.Asked.{Asks, IsFaultOf, IsFaultOfSearch, IsFaultOfSearchIn, IsFaultOfFind}
+use Rattle.steps.specs.Asked.{Asks, IsFaultOf}
 use Rattle.steps.specs.Asked as asked
 use Rattle.steps.specs.StepRows.{Rises, unless_of_search}
 use Rattle.steps.specs.Entries.{takes_memory}

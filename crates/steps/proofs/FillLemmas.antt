@@ -5,10 +5,11 @@ use Rattle.std.specs.Prelude.{Contains}
 use Rattle.std.specs.List.{AllByRecursion}
 use Rattle.std.proofs.lemmas.List.{append-nil, take-append-le}
 use Rattle.std.proofs.lemmas.List.Elements.{Contains-append_left}
-use Rattle.std.proofs.lemmas.Bool.Decides.{eqb_tells}
+use Rattle.std.proofs.lemmas.Bool.{eqb-true}
 use Rattle.index.specs.State.{state_of}
-use Rattle.search.specs.Request.{Request}
-use Rattle.search.specs.Shown.{IsShownOf, Shown}
+use Rattle.prepare.specs.Request.{Request}
+use Rattle.search.specs.Shown.{IsShownOf}
+use Rattle.views.specs.Shown.{Shown}
 use Rattle.transcript.specs.declared.entry.Entry.{Entry}
 use Rattle.transcript.specs.declared.entry.Entry.TheVariants.{Found, SearchRefused}
 use Rattle.transcript.specs.declared.entry.SearchReason.{SearchReason}
@@ -26,13 +27,6 @@ use Rattle.steps.proofs.EntryLemmas.{legal_search, no_version, not_legal_yet}
 
 abbrev without_entry : Row → Row
 without_entry row = record row { entry = None }
-
-zero_by : (n : ℕ) → (n == 0) ≡ true → n ≡ 0
-zero_by n e = by (eqb_tells n 0)
-  where
-    by : ((eqb n 0 ≡ true) × (n ≡ 0)) ⊎ ((eqb n 0 ≡ false) × (n ≡ 0 → ⊥)) → n ≡ 0
-    by (inl same) = same.1
-    by (inr other) = let opposite = sym other.0 ∙ e in cc
 
 -- A row without an entry, and the entry of a search that it gets.
 module _ (row : Row) (entry : Entry) (none : row.entry ≡ None) (of_search : unless_of_search (Some entry) ≡ None) where
@@ -241,7 +235,7 @@ module _ (Holds : List ℕ → List ℕ → Type 0) (limits : Limits) (readers :
     newest : (t : Bool) → (readers == 0) ≡ t
         → IfSome (cond t (Some (published_last before')) (option_map (λ others. published_last (all others)) (before_sync after')))
         (λ version. answer.version ≤ version)
-    newest true is = at_once (zero_by readers is)
+    newest true is = at_once (eqb-true readers 0 is)
     newest false is = before_a_sync (before_sync after') refl
 
     is_answered : IsAnswered context now.request reader answer

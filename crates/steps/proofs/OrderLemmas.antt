@@ -8,7 +8,7 @@ use Rattle.std.proofs.lemmas.List.{append-nil}
 use Rattle.std.proofs.lemmas.List.Elements.{Contains-push_cases}
 use Rattle.std.proofs.lemmas.Grind.{flat_map-append}
 use Rattle.index.specs.State.{state_of}
-use Rattle.search.specs.Shown.{Shown}
+use Rattle.views.specs.Shown.{Shown}
 use Rattle.script.specs.Items.{Numbered}
 use Rattle.transcript.specs.declared.entry.Entry.{Entry}
 use Rattle.transcript.specs.declared.entry.Entry.TheVariants.{Refused, Found, SearchRefused}
@@ -17,7 +17,7 @@ use Rattle.transcript.specs.declared.entry.SearchReason.{SearchReason}
 use Rattle.transcript.specs.declared.entry.SearchReason.TheVariants as search_reason
 use Rattle.steps.specs.Rows.{version_in, last_or, searches_of}
 use Rattle.steps.specs.LegalRows.{Limits}
-use Rattle.steps.specs.Steps.{RunState, OpenSearch, IsStep, Runs, IsFirst, IsOpenAt, IsAnswerNow, latest, last_of, with_search, asked, without, status_now}
+use Rattle.steps.specs.Steps.{RunState, OpenSearch, IsStep, Runs, IsFirst, IsOpenAt, IsAnswerNow, latest, with_search, asked, without, status_now}
 use Rattle.steps.specs.Steps as steps
 use Rattle.steps.specs.StepRows.{Given, given_in, IsNoted}
 use Rattle.steps.specs.Entries.{versions_of, searches_among, IsInOrder}

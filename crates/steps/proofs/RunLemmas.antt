@@ -17,19 +17,6 @@ use Rattle.steps.proofs.RowLemmas.{items_of-append}
 use Rattle.steps.proofs.FillLemmas.{after_open}
 use Rattle.steps.proofs.StepLemmas.{first_rows, next_rows}
 
-module _ {Holds : List ℕ → List ℕ → Type 0} {limits : Limits} {readers : ℕ} where
-  pub one_step : {s s' : RunState} {taken : List Numbered} {written : List Entry} → IsStep Holds limits readers s taken written s'
-      → Runs Holds limits readers s taken written s'
-  one_step step = goes_on begins step refl refl
-
-  pub runs_on : {a b c : RunState} {items items' : List Numbered} {entries entries' : List Entry} → Runs Holds limits readers a items entries b
-      → Runs Holds limits readers b items' entries' c → Runs Holds limits readers a (items ++ items') (entries ++ entries') c
-  runs_on {a} {b} {c} {items} {items'} {entries} {entries'} first begins =
-      subst (λ (i : List Numbered). Runs Holds limits readers a i (entries ++ []) b) (sym (append-nil items))
-      (subst (λ (e : List Entry). Runs Holds limits readers a items e b) (sym (append-nil entries)) first)
-  runs_on {a} {b} {c} {items} {items'} {entries} {entries'} first (goes_on {items = i} {taken = t} {entries = e} {written = w} run step is are) =
-      goes_on (runs_on first run) step (ap (λ k. items ++ k) is ∙ sym (append_assoc items i t)) (ap (λ k. entries ++ k) are ∙ sym (append_assoc entries e w))
-
 -- What holds at first, and still holds after each step, holds of a run.
 pub runs_keep : (Holds : List ℕ → List ℕ → Type 0) (limits : Limits) (readers : ℕ) (from : RunState) (P : List Numbered → List Entry → RunState → Type 0)
     → P [] [] from

@@ -4,8 +4,8 @@ use Rattle.std.proofs.Common.{◌∙◌, ◌≤◌, subst, arith, length-set, sl
 use Rattle.std.specs.List.{AllByRecursion}
 use Rattle.std.proofs.lemmas.List.{append-nil}
 use Rattle.index.specs.State.{state_of}
-use Rattle.search.specs.Request.{Request}
-use Rattle.search.specs.Shown.{Shown}
+use Rattle.prepare.specs.Request.{Request}
+use Rattle.views.specs.Shown.{Shown}
 use Rattle.script.specs.Items.{Item, Numbered, cancel, status}
 use Rattle.transcript.specs.declared.entry.Entry.{Entry}
 use Rattle.transcript.specs.declared.entry.Entry.TheVariants.{Refused, Found, SearchRefused}

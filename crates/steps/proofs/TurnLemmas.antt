@@ -4,7 +4,7 @@ use Rattle.std.specs.Prelude.{slice_set, eqb, true, false}
 use Rattle.std.specs.List.{AllByRecursion}
 use Rattle.std.proofs.lemmas.Bool.Decides.{eqb_tells}
 use Rattle.std.proofs.lemmas.List.{get_or-set_same, get_or-set_other}
-use Rattle.search.specs.Shown.{Shown}
+use Rattle.views.specs.Shown.{Shown}
 use Rattle.steps.specs.declared.last.Last.{Last}
 use Rattle.steps.specs.Rows.{Row}
 use Rattle.steps.specs.LegalRows.{AreInTurn}

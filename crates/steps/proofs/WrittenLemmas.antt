@@ -19,7 +19,7 @@ use Rattle.transcript.specs.declared.entry.SearchReason.{SearchReason}
 use Rattle.transcript.specs.declared.entry.SearchReason.TheVariants as search_reason
 use Rattle.steps.specs.Rows.{is_sync, searches_of}
 use Rattle.steps.specs.LegalRows.{Limits, IsCommandEntry, WasAsked, WasNotAsked}
-use Rattle.steps.specs.Steps.{RunState, OpenSearch, IsStep, Runs, IsFirst, IsOpenAt, IsNotOpen, MayTake, latest, asked, without, status_now}
+use Rattle.steps.specs.Steps.{RunState, OpenSearch, IsStep, Runs, IsFirst, IsOpenAt, IsNotOpen, MayTake, asked, without, status_now}
 use Rattle.steps.specs.Steps as steps
 use Rattle.steps.specs.StepRows.{searches_in}
 use Rattle.steps.specs.Entries.{is_of, count_of, searches_among, line_in, lines_in, command_line, is_cancel, HaveLines, no_items, one_more, left_out, takes_memory}

@@ -10,8 +10,8 @@ use Rattle.request.specs.Faults.{IsFirstFault, reason_of}
 use Rattle.request.specs.Find.{IsFindOf, Options}
 use Rattle.request.specs.declared.fault.FindFault.{FindFault}
 use Rattle.request.specs.declared.fault.FindFault.TheVariants as find_fault
-use Rattle.search.specs.Pattern.{Pattern, IsPatternOf, IsPatternWithin, IsTreeFault, HasTree}
-use Rattle.search.specs.Request.{IsRequestFault, IsRequestOf, Request, all_lines_of}
+use Rattle.prepare.specs.Pattern.{Pattern, IsPatternOf, IsPatternWithin, IsTreeFault, HasTree}
+use Rattle.prepare.specs.Request.{IsRequestFault, IsRequestOf, Request, all_lines_of}
 use Rattle.script.specs.Items.{Item, search, search_in, find}
 use Rattle.transcript.specs.declared.entry.SearchReason.{SearchReason}
 use Rattle.transcript.specs.declared.entry.SearchReason.TheVariants as reason

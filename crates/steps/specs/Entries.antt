@@ -1,13 +1,12 @@
 -- What entries say, in the order of writing.
 use Rattle.std.specs.Prelude.{◌≡◌, ℕ, ◌<◌, ◌≤◌, ◌⊎◌, ◌==◌, Bool, true, false, count_by, sum_by, List, [], ◌∷◌, ◌++◌, flat_map, Some, Contains}
-use Rattle.search.specs.Shown.{Shown}
+use Rattle.views.specs.Shown.{Shown}
 use Rattle.script.specs.Items.{Item, Numbered, put, load, remove, publish, search, search_in, find, sync, cancel}
 use Rattle.transcript.specs.declared.entry.Entry.{Entry}
 use Rattle.transcript.specs.declared.entry.Entry.TheVariants.{Accepted, Refused, Published, Found, SearchRefused, Status}
 use Rattle.steps.specs.Rows.{version_in, failures_in, searches_of}
 use Rattle.steps.specs.LegalRows.{Limits}
 use Rattle.steps.specs.Steps.{RunState, Runs}
-use Rattle.steps.specs.StepRows.{Given, given_in}
 
 -- whether the entry answers or refuses the search of this number
 abbrev pub is_of : ℕ → Entry → Bool
@@ -26,10 +25,6 @@ failures_of entries = sum_by (λ entry. failures_in (Some entry)) entries
 -- the versions that were published, first to last
 abbrev pub versions_of : List Entry → List ℕ
 versions_of entries = flat_map (λ entry. version_in (Some entry)) entries
-
--- the answers, first to last
-abbrev pub answers_of : List Entry → List Given
-answers_of entries = flat_map (λ entry. given_in (Some entry)) entries
 
 -- how many searches there are
 abbrev pub searches_among : List Numbered → ℕ

@@ -8,8 +8,9 @@ use Rattle.index.specs.declared.command.Command.{Command}
 use Rattle.index.specs.Documents.{Document, number_of}
 use Rattle.index.specs.State.{State, state_of, body_bytes}
 use Rattle.index.specs.Text.{IsName, IsNameFault, IsBody, IsBodyFault}
-use Rattle.search.specs.Request.{Request}
-use Rattle.search.specs.Shown.{IsShownOf, Shown}
+use Rattle.prepare.specs.Request.{Request}
+use Rattle.search.specs.Shown.{IsShownOf}
+use Rattle.views.specs.Shown.{Shown}
 use Rattle.script.specs.Items.{Item, put, load, remove, publish, search, search_in, find, sync, cancel, status, bad_line, bad_put, truncated, body_not_closed}
 use Rattle.transcript.specs.declared.entry.Entry.{Entry}
 use Rattle.transcript.specs.declared.entry.Entry.TheVariants.{Accepted, Refused, Published, Found, SearchRefused, Status}

@@ -1,8 +1,8 @@
 -- The rows of a run between two steps: each item that was taken, with its entry if it has one by now.
 use Rattle.std.specs.Prelude.{◌≡◌, ℕ, ◌+◌, ◌≤◌, List, [], ◌∷◌, ◌++◌, length, map, flat_map, Option, Some, None, false}
 use Rattle.std.specs.List.{AllByRecursion}
-use Rattle.search.specs.Request.{Request}
-use Rattle.search.specs.Shown.{Shown}
+use Rattle.prepare.specs.Request.{Request}
+use Rattle.views.specs.Shown.{Shown}
 use Rattle.script.specs.Items.{Item, Numbered, search, search_in, find}
 use Rattle.transcript.specs.declared.entry.Entry.{Entry}
 use Rattle.transcript.specs.declared.entry.Entry.TheVariants.{Found, SearchRefused}

@@ -2,7 +2,7 @@
 
 ghost use Rattle.std.specs.Prelude.{◌≡◌, ℕ, ◌+◌, ◌<◌, ◌≤◌, List, [], ◌∷◌, ◌++◌, Contains, IsPermutation, length, sum_by, true, false};
 ghost use Rattle.script.specs.Items.{Numbered as NumberedItem, numbered as numbered_item, cancel, status};
-ghost use Rattle.search.specs.Shown.{Shown};
+ghost use Rattle.views.specs.Shown.{Shown};
 ghost use Rattle.transcript.specs.declared.entry.Entry.{Entry};
 ghost use Rattle.transcript.specs.declared.entry.Entry.TheVariants.{Refused, Found, SearchRefused};
 ghost use Rattle.transcript.specs.declared.entry.Reason.TheVariants.{OutOfMemory};

@@ -1,59 +1,26 @@
 -- What a writer holds, piece by piece.
-use Rattle.std.proofs.Common.{◌≡◌, ℕ, List, [], ◌∷◌, ◌++◌, Option, Some, None, refl, sym, ap, ◌∙◌, length, take, drop, append_assoc, subst}
+use Rattle.std.proofs.Common.{◌≡◌, ℕ, List, [], ◌++◌, Option, refl, sym, ap, ◌∙◌, length, take, drop, append_assoc, subst}
 use Rattle.std.proofs.Common.{◌-◌, arith, length-drop}
 use Rattle.std.proofs.lemmas.List.{append-nil, take-append-drop, take_all}
-use Rattle.std.specs.Prelude.{Bool, Result, Ok, Err, OnErr}
-use Rattle.std.specs.Io.KnownBytes.{Appends, Keeps}
-use Rattle.search.specs.Shown.{text_of_shown}
+use Rattle.std.specs.Prelude.{Bool}
+use Rattle.std.specs.Io.KnownBytes.{Appends}
+use Rattle.std.proofs.KnownBytes.{Appends-trans}
+pub use Rattle.std.proofs.KnownBytes.{Appends-nil as appends_nothing}
+pub use Rattle.std.proofs.lemmas.Result.{on_err_weaker}
+use Rattle.views.specs.Shown.{text_of_shown}
 use Rattle.transcript.specs.declared.entry.Entry.{Entry}
 use Rattle.transcript.specs.declared.entry.Entry.TheVariants.{Accepted, Refused, Published, Found, SearchRefused, Status}
 use Rattle.transcript.specs.Heads.{head_of_entry, lines_of_entry}
 use Rattle.transcript.specs.Transcript.{line_refusal, search_refusal, status_line, text_of_entry}
 use Rattle.transcript.specs.Written.{AppendsAllBut, AppendsFront}
 
-pub appends_nothing : (known : Option (List ℕ)) → Appends known known []
-appends_nothing None = tt
-appends_nothing (Some xs) = sym (append-nil xs)
-
-pub appends_both : (a b c : Option (List ℕ)) (x y : List ℕ) → Appends a b x → Appends b c y → Appends a c (x ++ y)
-appends_both None b c x y h k = tt
-appends_both (Some s) None c x y h k = absurd h
-appends_both (Some s) (Some t) None x y h k = absurd k
-appends_both (Some s) (Some t) (Some u) x y h k = k ∙ ap (λ l. l ++ y) h ∙ append_assoc s x y
-
-pub appends_kept : (a b c : Option (List ℕ)) (x : List ℕ) → Appends a b x → Keeps b c → Appends a c x
-appends_kept None b c x h k = tt
-appends_kept (Some s) None c x h k = absurd h
-appends_kept (Some s) (Some t) None x h k = absurd k
-appends_kept (Some s) (Some t) (Some u) x h k = k ∙ h
-
-pub written_none : (known : Option (List ℕ)) (text : List ℕ) → AppendsAllBut known known text text
-written_none known text = record { front = []; whole = refl; appended = appends_nothing known }
-
 pub written_more : (a b c : Option (List ℕ)) (text rest : List ℕ) (count : ℕ) → AppendsAllBut a b text rest → Appends b c (take count rest)
     → AppendsAllBut a c text (drop count rest)
 written_more a b c text rest count so_far more = record {
   front = so_far.front ++ take count rest;
   whole = so_far.whole ∙ ap (λ l. so_far.front ++ l) (sym (take-append-drop count rest)) ∙ sym (append_assoc so_far.front (take count rest) (drop count rest));
-  appended = appends_both a b c so_far.front (take count rest) so_far.appended more;
+  appended = Appends-trans a b c so_far.front (take count rest) so_far.appended more;
 }
-
-pub written_all : (a b : Option (List ℕ)) (text rest : List ℕ) → rest ≡ [] → AppendsAllBut a b text rest → Appends a b text
-written_all a b text rest none so_far = subst (Appends a b) (sym (so_far.whole ∙ ap (λ r. so_far.front ++ r) none ∙ append-nil so_far.front)) so_far.appended
-
-pub written_front : (a b c : Option (List ℕ)) (text rest : List ℕ) → AppendsAllBut a b text rest → Keeps b c → AppendsFront a c text
-written_front a b c text rest so_far kept =
-    record { front = so_far.front; rest = rest; whole = so_far.whole; appended = appends_kept a b c so_far.front so_far.appended kept }
-
-pub written_short : (a b c : Option (List ℕ)) (text rest : List ℕ) (count : ℕ) → AppendsAllBut a b text rest → Appends b c (take count rest)
-    → AppendsFront a c text
-written_short a b c text rest count so_far more =
-    let further = written_more a b c text rest count so_far more in
-    record { front = further.front; rest = drop count rest; whole = further.whole; appended = further.appended }
-
-pub empty_by_length : (text : List ℕ) → length text ≡ 0 → text ≡ []
-empty_by_length [] e = refl
-empty_by_length (b ∷ text) e = absurd (omega arith)
 
 -- taking the rest of a slice from a place on leaves all of that rest
 pub rest_dropped : (text : List ℕ) (count : ℕ) → take (length text - count) (drop count text) ≡ drop count text
@@ -68,7 +35,7 @@ pub held_less : (a b c : Option (List ℕ)) (all held held' : List ℕ) → Appe
 held_less a b c all held held' so_far next = record {
   front = so_far.front ++ next.front;
   whole = so_far.whole ∙ ap (λ t. so_far.front ++ t) next.whole ∙ sym (append_assoc so_far.front next.front held');
-  appended = appends_both a b c so_far.front next.front so_far.appended next.appended;
+  appended = Appends-trans a b c so_far.front next.front so_far.appended next.appended;
 }
 
 -- the text and what is held back grow by the same bytes
@@ -82,7 +49,7 @@ held_more a b all held more so_far = record {
 -- what was held back is written
 pub held_none : (a b c : Option (List ℕ)) (all held : List ℕ) → AppendsAllBut a b all held → Appends b c held → Appends a c all
 held_none a b c all held so_far last =
-    subst (Appends a c) (sym so_far.whole) (appends_both a b c so_far.front held so_far.appended last)
+    subst (Appends a c) (sym so_far.whole) (Appends-trans a b c so_far.front held so_far.appended last)
 
 -- or a beginning of it
 pub held_in_part : (a b c : Option (List ℕ)) (all held : List ℕ) → AppendsAllBut a b all held → AppendsFront b c held → AppendsFront a c all
@@ -90,16 +57,8 @@ held_in_part a b c all held so_far last = record {
   front = so_far.front ++ last.front;
   rest = last.rest;
   whole = so_far.whole ∙ ap (λ t. so_far.front ++ t) last.whole ∙ sym (append_assoc so_far.front last.front last.rest);
-  appended = appends_both a b c so_far.front last.front so_far.appended last.appended;
+  appended = Appends-trans a b c so_far.front last.front so_far.appended last.appended;
 }
-
--- or nothing of it
-pub held_back : (a b : Option (List ℕ)) (all held : List ℕ) → AppendsAllBut a b all held → AppendsFront a b all
-held_back a b all held so_far = record { front = so_far.front; rest = held; whole = so_far.whole; appended = so_far.appended }
-
--- nothing is written
-pub nothing_of : (known : Option (List ℕ)) (text : List ℕ) → AppendsFront known known text
-nothing_of known text = record { front = []; rest = text; whole = refl; appended = appends_nothing known }
 
 -- a beginning of a text is one of a longer text
 pub front_of_longer : (a b : Option (List ℕ)) (text more : List ℕ) → AppendsFront a b text → AppendsFront a b (text ++ more)
@@ -117,13 +76,13 @@ front_of_second a b c first second all some = record {
   front = first ++ some.front;
   rest = some.rest;
   whole = ap (λ t. first ++ t) some.whole ∙ sym (append_assoc first some.front some.rest);
-  appended = appends_both a b c first some.front all some.appended;
+  appended = Appends-trans a b c first some.front all some.appended;
 }
 
 pub both_whole : (a b c : Option (List ℕ)) (first second rest : List ℕ) → rest ≡ [] → Appends a b first → Appends b c second
     → AppendsAllBut a c (first ++ second) rest
 both_whole a b c first second rest none one two =
-    written_emptied a c (first ++ second) rest none (appends_both a b c first second one two)
+    written_emptied a c (first ++ second) rest none (Appends-trans a b c first second one two)
 
 -- ---- a text that is written piece by piece
 
@@ -132,10 +91,6 @@ pub record IsDoneTo (a b : Option (List ℕ)) (all left held : List ℕ) : Type 
   pub done : List ℕ
   pub written : AppendsAllBut a b done held
   pub whole : all ≡ done ++ left
-
--- before the first piece
-pub done_none : (known : Option (List ℕ)) (held left : List ℕ) → IsDoneTo known known (held ++ left) left held
-done_none known held left = record { done = held; written = written_none known held; whole = refl }
 
 module _ (a b c : Option (List ℕ)) (all piece left left' held : List ℕ) (so_far : IsDoneTo a b all left held) (next : left ≡ piece ++ left') where
   split : all ≡ (so_far.done ++ piece) ++ left'
@@ -186,7 +141,3 @@ pub behind_head : (stats : Bool) (entry : Entry) (old now : List ℕ) → now �
 behind_head stats entry old now grown =
     ap (λ t. t ++ lines_of_entry entry) grown
     ∙ (append_assoc old (head_of_entry stats entry) (lines_of_entry entry) ∙ ap (λ t. old ++ t) (sym (entry-parts stats entry)))
-
-pub on_err_weaker : {A E P Q : Type 0} (result : Result A E) → (P → Q) → OnErr result P → OnErr result Q
-on_err_weaker (Ok a) weaker is = is
-on_err_weaker (Err e) weaker is = weaker is

@@ -1,6 +1,6 @@
 -- The text of an entry in two parts: for an answer its first line and the others, and for any other entry the whole text.
 use Rattle.std.specs.Prelude.{ℕ, Bool, List, []}
-use Rattle.search.specs.Shown.{text_of_head}
+use Rattle.views.specs.Shown.{text_of_head}
 use Rattle.transcript.specs.declared.entry.Entry.{Entry}
 use Rattle.transcript.specs.declared.entry.Entry.TheVariants.{Accepted, Refused, Published, Found, SearchRefused, Status}
 use Rattle.transcript.specs.Transcript.{line_refusal, search_refusal, status_line}

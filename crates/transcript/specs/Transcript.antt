@@ -1,8 +1,8 @@
 -- The text and the status of a transcript (this program's choice; the statuses follow grep's).
 use Rattle.std.specs.Prelude.{ℕ, Bool, true, false, nat_lt, if◌then◌else◌, List, [], ◌++◌, flat_map, codes, decimal}
 use Rattle.std.specs.List.{list_any}
-use Rattle.search.specs.Shown.{text_of_shown}
-use Rattle.search.specs.Text.{line_end}
+use Rattle.views.specs.Shown.{text_of_shown}
+use Rattle.views.specs.Text.{line_end}
 use Rattle.ere.specs.declared.error.EreError.{EreError}
 use Rattle.transcript.specs.declared.entry.Entry.{Entry}
 use Rattle.transcript.specs.declared.entry.Entry.TheVariants.{Accepted, Refused, Published, Found, SearchRefused, Status}

@@ -5,7 +5,7 @@ ghost use Rattle.transcript.specs.Transcript.{is_refusal, has_hit};
 
 use ere::EreError;
 use index::{BodyErrorKind, NameError};
-use search::Shown;
+use views::Shown;
 
 /// Why a line of a script is refused.
 #[derive(Clone, Copy, Debug, PartialEq, Eq)]

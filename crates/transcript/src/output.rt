@@ -3,19 +3,19 @@
 ghost use Rattle.std.specs.Prelude.{◌≡◌, ◌≢◌, ◌≤◌, ◌++◌, List, ℕ, length, take, ◌⊎◌, IfOk, IfErr, OnOk, OnErr, IsErrOf};
 ghost use Rattle.std.specs.Io.KnownBytes.{Appends, Keeps};
 ghost use Rattle.std.specs.IoError.{error_kind};
-ghost use Rattle.search.specs.Parts.{text_of_parts};
-ghost use Rattle.search.specs.Text.{text_of_hits};
+ghost use Rattle.views.specs.Parts.{text_of_parts};
+ghost use Rattle.views.specs.Text.{text_of_hits};
 ghost use Rattle.transcript.specs.Transcript.{text_of_entry, text_of_transcript};
 ghost use Rattle.transcript.specs.Written.{AppendsFront, AppendsAllBut};
 
 use crate::entry::Entry;
 use crate::texts::append_head;
 use crate::transcript::Transcript;
-use search::{Lines, PIECE, Part, PartText, append_lines, form_lines};
 use std::alloc::Global;
 use std::io::{Error, ErrorKind, Write};
 use std::thread::Threads;
 use thiserror::Error;
+use views::{Lines, PIECE, Part, PartText, append_lines, form_lines};
 
 /// Text is written once there are this many bytes of it.
 const PART: usize = 65_536;

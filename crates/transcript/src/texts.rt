@@ -2,7 +2,7 @@
 
 ghost use Rattle.std.specs.Prelude.{◌≡◌, ◌++◌, OnOk, OnErr, codes, decimal};
 ghost use Rattle.ere.specs.Faults.{reason_of};
-ghost use Rattle.search.specs.Text.{line_end};
+ghost use Rattle.views.specs.Text.{line_end};
 ghost use Rattle.transcript.specs.Reasons.{text_of_name_error, text_of_body_error, text_of_reason};
 ghost use Rattle.transcript.specs.Heads.{head_of_entry};
 ghost use Rattle.transcript.specs.Transcript.{line_refusal, search_refusal, status_line};
@@ -11,8 +11,8 @@ use crate::entry::{Entry, Reason, SearchReason};
 use ere::EreError;
 use index::{BodyErrorKind, NameError};
 use itoa::Buffer;
-use search::append_all;
 use std::alloc::AllocError;
+use views::append_all;
 
 fn name_text(error: NameError) -> &'static str
     ensures { result.now ≡ text_of_name_error error }

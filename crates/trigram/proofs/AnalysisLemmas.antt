@@ -11,10 +11,11 @@ use Rattle.ere.specs.ByteSet.{has}
 use Rattle.ere.specs.Tree.{Tree, Trees, form, trees_of}
 use Rattle.ere.specs.Tree as tree
 use Rattle.trigram.specs.declared.analysis.Analysis as program
-use Rattle.trigram.specs.declared.analysis.Analysis.TheVariants.{Known as known_texts, Loose as loose_ends}
+use Rattle.trigram.specs.declared.analysis.Analysis.TheVariants.{Loose as loose_ends}
 use Rattle.trigram.specs.declared.analysis.Ends.{Ends}
 use Rattle.std.specs.declared.alloc.Global.{Global}
 use Rattle.std.specs.declared.vec.Vec.{Vec}
+use Rattle.std.proofs.Math.Bool.{and-true}
 use Rattle.query.specs.declared.query.Query.TheVariants as query
 use Rattle.query.proofs.Forms.{formula_of-Any}
 use Rattle.query.specs.Trigrams.{TrigramSet}
@@ -331,10 +332,6 @@ settle_same n m p q s t c d nullable prefixes suffixes conditions =
     ap (λ x. settle_loose x p s c) nullable ∙ ap (λ x. settle_loose m x s c) prefixes ∙ ap (λ x. settle_loose m q x c) suffixes
     ∙ ap (settle_loose m q t) (fun_ext conditions)
 
-and_true : (b : Bool) → (b && true) ≡ b
-and_true true = refl
-and_true false = refl
-
 pub known_before_stands : (texts p s q t : Texts) (n m : Bool) (c : SetTest) (ends : Ends) → m ≡ (has_text texts [] && n)
     → q ≡ joined_texts texts p → t ≡ (if n then union s texts else s) → EndsStandFor (settle_loose m q t c) ends
     → EndsStandFor (both (known texts) (loose n p s c)) ends
@@ -343,7 +340,7 @@ known_before_stands texts p s q t n m c ends nullable prefixes suffixes h = reco
   is =
       h.is
       ∙ settle_same m (has_text texts [] && n) q (joined_texts texts p) t (if n then union s texts else s) c (λ set. true && (c set && true))
-      nullable prefixes suffixes (λ set. sym (and_true (c set)))
+      nullable prefixes suffixes (λ set. sym (and-true (c set)))
       ∙ settle_distinct_prefixes (has_text texts [] && n) (joined_texts texts p) (if n then union s texts else s) (λ set. true && (c set && true));
 }
 
@@ -355,7 +352,7 @@ known_after_stands texts p s q t n m c ends nullable prefixes suffixes h = recor
   is =
       h.is
       ∙ settle_same m (n && has_text texts []) q (if n then union p texts else p) t (joined_texts s texts) c (λ set. c set && (true && true))
-      nullable prefixes suffixes (λ set. sym (and_true (c set)))
+      nullable prefixes suffixes (λ set. sym (and-true (c set)))
       ∙ settle_distinct_suffixes (n && has_text texts []) (if n then union p texts else p) (joined_texts s texts) (λ set. c set && (true && true));
 }
 
@@ -379,11 +376,6 @@ both_known_stands left right whole ends not_kept same h = record {
   plain = h.plain;
   is = h.is ∙ ap (λ ts. loosen (known ts)) same ∙ loosen_distinct (joined_texts left right) ∙ rw not_kept refl;
 }
-
--- and whose joins are kept
-pub both_kept_stands : (left right : Texts) (whole : Vec (Vec ℕ Global) Global) → are_kept (joins left right) ≡ true
-    → texts_of whole.items ≡ joins left right → StandFor (both (known left) (known right)) (known_texts whole)
-both_kept_stands left right whole kept same = record { plain = tt; is = ap known same ∙ rw kept refl }
 
 pub stands_same : (a b : Analysis) (analysis : program.Analysis) → a ≡ b → StandFor a analysis → StandFor b analysis
 stands_same a b analysis same h = record { plain = h.plain; is = h.is ∙ same }

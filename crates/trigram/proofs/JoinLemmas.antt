@@ -1,25 +1,19 @@
 -- Texts that come twice in a list: what is kept of the list is what is kept of its set.
-use Rattle.std.proofs.Common.{◌≡◌, ℕ, ◌<◌, Bool, true, false, cond, ◌&&◌, nat_le, List, [], ◌∷◌, ◌++◌, length, map, take, refl, sym, ap, ◌∙◌, arith}
+use Rattle.std.proofs.Common.{◌≡◌, ℕ, Bool, true, false, cond, ◌&&◌, nat_le, List, [], ◌∷◌, ◌++◌, length, map, take, refl, sym, ap, ◌∙◌}
 use Rattle.std.proofs.Common.{if◌then◌else◌}
 use Rattle.std.proofs.lemmas.List.{map-append}
-use Rattle.std.proofs.lemmas.Bool.Decides.{nat_tests}
+use Rattle.std.specs.Cmp.{both_ways}
 use mathlib.Core.Path.{fun_ext}
 use Rattle.query.specs.Trigrams.{TrigramSet, has_all_trigrams}
 use Rattle.query.specs.Texts.{Texts, has_all_of_one}
 use Rattle.trigram.specs.Texts.{Cut, has_text, with_text, with_texts, distinct, ending, cuts, shortest, kept_ends}
-use Rattle.trigram.specs.Analysis.{SetTest, known, loose, settle_loose, loosen, are_kept}
+use Rattle.trigram.specs.Analysis.{SetTest, known, loose, settle_loose, loosen}
 use Rattle.trigram.proofs.MemberLemmas.{IsIn-has_text, has_text-IsIn, IsIn-map, IsIn-distinct, IsIn-from_distinct, list_any-IsIn, IsIn-list_any}
 use Rattle.trigram.proofs.TextsLemmas.{with_texts-nil, with_texts-cons, with_texts-append}
 
-same_test : (a b : Bool) → (a ≡ true → b ≡ true) → (b ≡ true → a ≡ true) → a ≡ b
-same_test true true f g = refl
-same_test true false f g = sym (f refl)
-same_test false true f g = g refl
-same_test false false f g = refl
-
 pub has_all_of_one-distinct : (texts : Texts) (set : TrigramSet) → has_all_of_one (distinct texts) set ≡ has_all_of_one texts set
 has_all_of_one-distinct texts set =
-    same_test (has_all_of_one (distinct texts) set) (has_all_of_one texts set)
+    both_ways (has_all_of_one (distinct texts) set) (has_all_of_one texts set)
     (λ some.
     let one = IsIn-list_any (λ text. has_all_trigrams text set) (distinct texts) some in
     list_any-IsIn (λ text. has_all_trigrams text set) texts one.0 (IsIn-from_distinct texts one.0 one.1) one.2)
@@ -29,7 +23,7 @@ has_all_of_one-distinct texts set =
 
 has_text-distinct : (texts : Texts) (word : List ℕ) → has_text (distinct texts) word ≡ has_text texts word
 has_text-distinct texts word =
-    same_test (has_text (distinct texts) word) (has_text texts word)
+    both_ways (has_text (distinct texts) word) (has_text texts word)
     (λ some. has_text-IsIn texts word (IsIn-from_distinct texts word (IsIn-has_text (distinct texts) word some)))
     (λ some. has_text-IsIn (distinct texts) word (IsIn-distinct texts word (IsIn-has_text texts word some)))
 
@@ -89,9 +83,3 @@ loosen_distinct texts =
     ∙ settle_distinct_suffixes (has_text texts []) (distinct texts) texts (has_all_of_one texts)
     ∙ ap (λ b. settle_loose b (distinct texts) (distinct texts) (has_all_of_one texts)) (sym (has_text-distinct texts []))
     ∙ ap (settle_loose (has_text (distinct texts) []) (distinct texts) (distinct texts)) (fun_ext (λ set. sym (has_all_of_one-distinct texts set)))
-
--- more texts than are kept
-pub too_many : (texts : Texts) → 16 < length texts → are_kept texts ≡ false
-too_many texts many =
-    let no : nat_le (length texts) 16 ≡ false = grind (arith, nat_tests) in
-    rw no refl

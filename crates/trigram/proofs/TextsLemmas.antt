@@ -4,7 +4,7 @@ use Rattle.std.proofs.Common.{refl, sym, ap, ◌∙◌, arith}
 use Rattle.std.specs.declared.alloc.Global.{Global}
 use Rattle.std.specs.declared.vec.Vec.{Vec}
 use Rattle.std.proofs.Math.Nat.{le_trans}
-use Rattle.std.proofs.lemmas.List.{drop_more, drop_all, length-append}
+use Rattle.std.proofs.lemmas.List.{drop_more, length-append}
 use Rattle.std.proofs.lemmas.List.{append-nil}
 use Rattle.query.specs.Texts.{Texts, texts_of, joined_texts, has_all_of_one}
 use Rattle.query.specs.Query.{Formula, IsPlainFor}
@@ -13,9 +13,6 @@ use Rattle.trigram.specs.Texts.{has_text, with_text, with_texts}
 pub next_text : (texts : List (Vec ℕ Global)) (i : ℕ) (x : Vec ℕ Global) → i < length texts → x ≡ get_or texts i x
     → texts_of (drop i texts) ≡ x.items ∷ texts_of (drop (i + 1) texts)
 next_text texts i x below read = ap texts_of (drop_more texts i x below ∙ ap (λ y. y ∷ drop (i + 1) texts) (sym read))
-
-pub no_texts : (texts : List (Vec ℕ Global)) (i : ℕ) → length texts ≤ i → texts_of (drop i texts) ≡ []
-no_texts texts i past = ap texts_of (drop_all i texts past)
 
 pub with_texts-nil : (texts : Texts) → with_texts texts [] ≡ texts
 unfolding with_texts

@@ -45,7 +45,7 @@ pub(crate) struct Ends {
 
 /// The condition of a pattern, as a plain query (see `simplify`). If a line of a document contains a match, the
 /// trigrams of the document meet the query. (Russ Cox, "Regular Expression Matching with a Trigram Index", 2012,
-/// "Indexed Regular Expression Search"; `docs/DEFINITIONS.md` has the table.)
+/// "Indexed Regular Expression Search"; `specs/Analysis.antt` has the rules.)
 ///
 /// The tree is within the limits of `ere`, as every tree that its reader returns is.
 ///

@@ -1,7 +1,7 @@
 //! Runs of scripts.
 
 ghost use Rattle.std.specs.Prelude.{◌≡◌, ℕ, ◌<◌, ◌≤◌, ◌↔◌, List, IfOk, IsErrOf, MatchBool, length};
-ghost use Rattle.shared.specs.declared.opening.TheConstants.{MAX_COMMANDS};
+ghost use Rattle.published.specs.declared.opening.TheConstants.{MAX_COMMANDS};
 ghost use Rattle.service.specs.Opening.{opened_state};
 ghost use Rattle.service.specs.Service.{first_service};
 ghost use Rattle.tsearch.specs.Legal.{IsLegal, limits_in};
@@ -9,9 +9,9 @@ ghost use Rattle.tsearch.specs.Legal.{IsLegal, limits_in};
 use crate::crew::Crew;
 use crate::items::{Plan, carry_out_all};
 use core::mem::replace_with;
+use published::OpenError;
 use script::MAX_SCRIPT;
 use service::{Gate, Naming, Opened, Reader, Service, Source, open};
-use shared::OpenError;
 use std::alloc::{AllocError, Global};
 use std::marker::{Brand, PhantomData};
 use std::sync::Wait;

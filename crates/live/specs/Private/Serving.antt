@@ -3,11 +3,11 @@ use Rattle.std.specs.Prelude.{◌≡◌, ◌≢◌, ℕ, ◌<◌, ◌||◌, Bool
 use Rattle.std.specs.List.{list_any}
 use Rattle.std.specs.Io.KnownBytes.{Appends}
 use Rattle.script.specs.Items.{Item, Numbered, put}
-use Rattle.reads.specs.declared.item.ReadItem.{ReadItem}
-use Rattle.reads.specs.Read.{AreShown, Came, CameIn, InboxState, IsReadOf}
-use Rattle.stream.specs.declared.owned.OwnedItem.{OwnedItem}
-use Rattle.stream.specs.declared.owned.OwnedItem.TheVariants.{Sync}
-use Rattle.stream.specs.Owned.{ShowsOwned}
+use Rattle.input.specs.declared.read_item.ReadItem.{ReadItem}
+use Rattle.input.specs.Read.{AreShown, Came, CameIn, InboxState, IsReadOf}
+use Rattle.input.specs.declared.owned.OwnedItem.{OwnedItem}
+use Rattle.input.specs.declared.owned.OwnedItem.TheVariants.{Sync}
+use Rattle.input.specs.Owned.{ShowsOwned}
 use Rattle.steps.specs.Entries.{failures_of}
 use Rattle.steps.specs.Steps.{RunState, Runs}
 use Rattle.service.specs.Service.{ServiceState, Fits, Gives, TakesPut, first_service, run_of}

@@ -1,11 +1,12 @@
 -- The places that are added for the lines of one document.
 use Rattle.std.specs.Prelude.{◌≡◌, ℕ, ◌+◌, ◌≤◌, ◌⊎◌, Option, Some, None, List, [], ◌++◌, length, map, slice_range, All}
 use Rattle.lines.specs.Lines.{lines_of}
-use Rattle.search.specs.declared.places.Place.{Place}
-use Rattle.search.specs.Pattern.{Test}
-use Rattle.search.specs.Scan.{Hit}
-use Rattle.search.specs.Places.{hit_in}
-use Rattle.search.specs.Selects.{Selects, IsAsked, numbered}
+use Rattle.views.specs.declared.places.Place.{Place}
+use Rattle.prepare.specs.Pattern.{Test}
+use Rattle.views.specs.Found.{Hit}
+use Rattle.views.specs.Places.{hit_in}
+use Rattle.search.specs.Selects.{Selects, IsAsked}
+use Rattle.views.specs.Found.{numbered}
 
 -- The body has this text from this offset on.
 pub record HasTextAt (body : List ℕ) (offset : ℕ) (text : List ℕ) : Type 0 where

@@ -9,18 +9,19 @@ use Rattle.request.specs.declared.options.View.TheVariants as view
 use Rattle.search.specs.declared.gathered.Gathered.{Gathered}
 use Rattle.search.specs.declared.gathered.Wanted.{Wanted}
 use Rattle.search.specs.declared.side_by_side.Joined.{Joined}
-use Rattle.search.specs.Parts.{text_of_parts}
-use Rattle.search.specs.Prepared.{request_of}
+use Rattle.views.specs.Parts.{text_of_parts}
+use Rattle.prepare.specs.Prepared.{request_of}
 use Rattle.search.specs.Private.Documents.{lines_of_taken}
 use Rattle.search.specs.Private.Rows.{AreRowsOf}
-use Rattle.search.specs.declared.pattern.Prepared.{Prepared}
-use Rattle.search.specs.Request.{Request}
-use Rattle.search.specs.Scan.{Hit}
+use Rattle.prepare.specs.declared.pattern.Prepared.{Prepared}
+use Rattle.prepare.specs.Request.{Request}
+use Rattle.views.specs.Found.{Hit}
 use Rattle.search.specs.Selects.{Selects, IsAsked}
-use Rattle.search.specs.Shown.{Shown}
-use Rattle.search.specs.Tests.{test_of}
-use Rattle.search.specs.Text.{text_of_hits, text_of_rows}
-use Rattle.search.specs.View.{AreRows, Row, gap, at_most, body_of, hits_in, is_over, limited, names_of, stretches, total}
+use Rattle.views.specs.Shown.{Shown}
+use Rattle.prepare.specs.Tests.{test_of}
+use Rattle.views.specs.Text.{text_of_hits, text_of_rows}
+use Rattle.search.specs.Rows.{AreRows, at_most, body_of, hits_in, is_over, limited, names_of, total}
+use Rattle.views.specs.View.{Row, gap, stretches}
 
 -- what is left of a limit when so many are shown
 abbrev pub left_from : Option ℕ → ℕ → Option ℕ

@@ -1,7 +1,7 @@
 -- The first piece of a text.
 use Rattle.std.specs.Prelude.{◌≡◌, ℕ, ◌<◌, ◌≤◌, false, List, length, take}
 use Rattle.index.specs.Text.{has_long_line}
-use Rattle.finder.specs.FirstLine.{IsWholeLines}
+use Rattle.engine.specs.FirstLine.{IsWholeLines}
 
 -- the greatest length of a piece of a body (this program's choice)
 abbrev pub greatest_piece : ℕ

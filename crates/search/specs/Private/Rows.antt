@@ -1,10 +1,11 @@
 -- The rows of one document.
-use Rattle.std.specs.Prelude.{◌≡◌, ℕ, ◌==◌, Bool, false, if◌then◌else◌, List, [], ◌∷◌, ◌++◌, length, map}
+use Rattle.std.specs.Prelude.{◌≡◌, ℕ, List, [], ◌∷◌, length, map}
 use Rattle.request.specs.declared.options.View.{View}
 use Rattle.request.specs.declared.options.View.TheVariants as view
-use Rattle.search.specs.Request.{Request}
-use Rattle.search.specs.Scan.{Hit}
-use Rattle.search.specs.View.{Row, hit, near, gap, name, count, IsColumnRow, IsSpansRow, RowsOf, stretches}
+use Rattle.prepare.specs.Request.{Request}
+use Rattle.views.specs.Found.{Hit}
+use Rattle.views.specs.View.{Row, hit, name, count, stretches}
+use Rattle.search.specs.Rows.{IsColumnRow, IsSpansRow, RowsOf}
 
 -- What is shown of a document with this name and this body, of which these hits are shown. With lines near them the first stretch,
 -- too, has a gap before it.
@@ -16,20 +17,3 @@ AreRowsOf request view.Spans of body hits rows = RowsOf (IsSpansRow request) hit
 AreRowsOf request view.Names of body hits rows = rows ≡ name of ∷ []
 AreRowsOf request view.Counts of body hits rows = rows ≡ count of (length hits) ∷ []
 AreRowsOf request view.Header of body hits rows = rows ≡ []
-
--- ---- lines near hits, of which `ahead` are those from the line on
-
--- The first of the hits is this line.
-abbrev pub begins_at : List Hit → ℕ → Bool
-begins_at [] line = false
-begins_at (first ∷ hits) line = first.line == line
-
-abbrev pub row_at : List Hit → Hit → Row
-row_at ahead line = if begins_at ahead line.line then hit line else near line
-
-abbrev pub gap_before : ℕ → ℕ → List Row
-gap_before next line = if line == next then [] else gap ∷ []
-
--- the row of a line, and the gap before it unless it has the number `next`
-abbrev pub rows_of_line : ℕ → List Hit → Hit → List Row
-rows_of_line next ahead line = gap_before next line.line ++ row_at ahead line ∷ []

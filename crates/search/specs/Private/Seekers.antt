@@ -1,12 +1,12 @@
 -- How matches within a line are looked for.
 use Rattle.std.specs.Prelude.{◌≡◌, ◌≢◌, ℕ, ◌<◌, ◌≤◌, Bool, true, false, List, length, slice_index, Option, Some, None, IfSome}
 use Rattle.ere.specs.Tree.{Tree}
-use Rattle.finder.specs.Patterns.{IsFinderOf}
+use Rattle.engine.specs.Patterns.{IsFinderOf}
 use Rattle.request.specs.declared.options.View.{View}
 use Rattle.request.specs.declared.options.View.TheVariants as view
-use Rattle.search.specs.Prepared.{request_of}
-use Rattle.search.specs.View.{shown_tree}
-use Rattle.search.specs.declared.pattern.Prepared.{Prepared}
+use Rattle.prepare.specs.Prepared.{request_of}
+use Rattle.search.specs.Rows.{shown_tree}
+use Rattle.prepare.specs.declared.pattern.Prepared.{Prepared}
 use Rattle.search.specs.declared.seeker.Seeker.{Seeker}
 use Rattle.search.specs.declared.seeker.Tried.{Tried}
 use Rattle.search.specs.declared.seeker.Tried.TheVariants.{Span, From}

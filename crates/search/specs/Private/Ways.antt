@@ -1,7 +1,7 @@
 -- The ways in which lines that contain a match of a tree are found, and which of them is taken.
 use Rattle.std.specs.Prelude.{ℕ, ◌+◌, ◌<◌, ◌≤◌, List, length, map, sum, take}
 use Rattle.ere.specs.Tree.{Tree}
-use Rattle.finder.specs.Patterns.{IsFinderOf}
+use Rattle.engine.specs.Patterns.{IsFinderOf}
 use Rattle.matcher.specs.Steps.{IsQuick}
 use Rattle.simulation.specs.Simulations.{IsSimulationOf}
 use Rattle.index.specs.declared.document.SharedDocument.{SharedDocument}

@@ -1,15 +1,15 @@
 -- Open searches that get their entries.
 use Rattle.std.specs.Prelude.{◌≡◌, ◌≢◌, ℕ, ◌+◌, ◌<◌, ◌≤◌, List, [], ◌∷◌, ◌++◌, length, take, drop, All, Bool, Some, slice_get}
 use mathlib.Core.List.{IsPrefix}
-use Rattle.search.specs.Request.{Request}
-use Rattle.search.specs.Shown.{Shown}
+use Rattle.prepare.specs.Request.{Request}
+use Rattle.views.specs.Shown.{Shown}
 use Rattle.script.specs.Items.{Item}
 use Rattle.steps.specs.LegalRows.{WasAsked, WasNotAsked}
 use Rattle.steps.specs.Asked.{Asks, IsFaultOf}
 use Rattle.steps.specs.Steps.{OpenSearch, last}
 use Rattle.steps.specs.declared.last.Last.{Last}
-use Rattle.shared.specs.Desk.{DeskState}
-use Rattle.shared.specs.History.{Known}
+use Rattle.published.specs.Desk.{DeskState}
+use Rattle.published.specs.History.{Known}
 use Rattle.transcript.specs.declared.entry.Entry.{Entry}
 use Rattle.transcript.specs.declared.entry.Entry.TheVariants.{Refused, SearchRefused}
 use Rattle.transcript.specs.declared.entry.Reason.TheVariants.{NoSuchSearch}

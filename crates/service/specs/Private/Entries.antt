@@ -13,16 +13,16 @@ use Rattle.index.specs.Text.{IsBody}
 use Rattle.request.specs.Faults.{reason_of}
 use Rattle.request.specs.declared.fault.FindFault.{FindFault}
 use Rattle.request.specs.declared.fault.FindFault.TheVariants as find_fault
-use Rattle.search.specs.declared.requested.FindError.{FindError}
+use Rattle.prepare.specs.declared.requested.FindError.{FindError}
 use Rattle.script.specs.Items.{load}
-use Rattle.shared.specs.Desk.{DeskState}
+use Rattle.published.specs.Desk.{DeskState}
 use Rattle.transcript.specs.declared.entry.Entry.{Entry}
 use Rattle.transcript.specs.declared.entry.Entry.TheVariants.{Accepted, Refused, Published}
 use Rattle.transcript.specs.declared.entry.Reason.{Reason}
 use Rattle.transcript.specs.declared.entry.Reason.TheVariants as reason
 use Rattle.transcript.specs.declared.entry.SearchReason.{SearchReason}
 use Rattle.transcript.specs.declared.entry.SearchReason.TheVariants as search_reason
-use Rattle.steps.specs.LegalRows.{IsRoomFor, HasBody, IsRemove, IsNamed, HasLoaded}
+use Rattle.steps.specs.LegalRows.{HasBody, IsRemove, IsNamed, HasLoaded}
 use Rattle.steps.specs.Rows.{command_of, failures_in}
 use Rattle.service.specs.Service.{IsCounted}
 
@@ -69,10 +69,6 @@ desk_after (Err why) commands desk = desk
 
 abbrev pub RanOut : ℕ → Entry → Type 0
 RanOut line entry = entry ≡ Refused line reason.OutOfMemory
-
--- Refused as full exactly if the limit is reached. If it is not, memory can run out.
-abbrev pub IsAccepted : ℕ → State → ℕ → Entry → Type 0
-IsAccepted most state line entry = IsRoomFor most state line entry ⊎ ((state.version < most) × RanOut line entry)
 
 -- The faults of a body come first, then the room.
 abbrev pub HasBodyOrNoMemory : ℕ → State → List ℕ → ℕ → Entry → Type 0

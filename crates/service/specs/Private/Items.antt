@@ -1,8 +1,8 @@
 -- Items that are carried out.
 use Rattle.std.specs.Prelude.{◌≡◌, ℕ, List, [], ◌++◌, length, true, false, Option, Some}
 use Rattle.script.specs.Items.{Numbered, cancel, status}
-use Rattle.shared.specs.Desk.{DeskState}
-use Rattle.shared.specs.History.{Known, known}
+use Rattle.published.specs.Desk.{DeskState}
+use Rattle.published.specs.History.{Known, known}
 use Rattle.service.specs.declared.items.Outcome.{Outcome}
 use Rattle.service.specs.declared.items.Outcome.TheVariants as outcome
 use Rattle.transcript.specs.declared.entry.Entry.{Entry}

@@ -1,5 +1,5 @@
 -- Searches as they are asked for.
-use Rattle.search.specs.declared.pattern.Prepared.{Prepared}
+use Rattle.prepare.specs.declared.pattern.Prepared.{Prepared}
 use Rattle.script.specs.Items.{Item, search, search_in, find}
 use Rattle.service.specs.declared.question.Texts.{Texts}
 use Rattle.service.specs.declared.question.Texts.TheVariants as texts

@@ -1,44 +1,71 @@
 -- Sets in a row that become one part.
-use Rattle.std.specs.Prelude.{◌≡◌, ℕ, suc, ◌+◌, ◌*◌, ◌<◌, ◌↔◌, Bool, IsTrue, List, length, slice_index, ◌⊎◌, if◌then◌else◌}
+use Rattle.std.specs.Prelude.{◌≡◌, ℕ, ◌+◌, ◌*◌, ◌<◌, ◌≤◌, ◌↔◌, Bool, false, IsTrue, List, [], ◌∷◌, length, slice_index, ◌⊎◌, if◌then◌else◌}
+use Rattle.std.specs.List.{list_all}
 use Rattle.ere.specs.Bits.{has_bit}
+use Rattle.ere.specs.ByteSet.{has}
+use Rattle.spans.specs.Spans.{Relation}
 use Rattle.simulation.specs.declared.part.Gaps.{Gaps}
-use Rattle.simulation.specs.declared.part.Sizes.{Sizes}
-use Rattle.simulation.specs.Parts.{Shape, set, run, both, Chain, Reads}
-use Rattle.simulation.specs.Pending.{IsRun, IsWhole, size_of, words_for}
+use Rattle.simulation.specs.Parts.{Shape, set, Chain, Reads}
+use Rattle.simulation.specs.Pending.{IsWhole, size_of, words_for}
 use Rattle.simulation.specs.Packing.{everywhere, nowhere}
+use Rattle.simulation.specs.declared.run.Mark.{Mark}
+use Rattle.simulation.specs.declared.run.Mark.TheVariants.{Has, Optional, Repeated}
 use Rattle.simulation.specs.declared.run.Place.{Place}
-use Rattle.simulation.specs.declared.run.Row.{Row as RowValue}
-
--- A mask for each byte, with these bits.
-pub record AreMasks (masks : List ℕ) (value : ℕ → ℕ → Bool) : Type 0 where
-  pub all : length masks ≡ 256
-  pub each : (byte bit : ℕ) → byte < 256 → bit < 64 → has_bit (slice_index masks byte) bit ≡ value byte bit
 
 -- A word has a bit some strides above one, and another word has a bit at each stride on the way there, from that one on.
 abbrev pub Passes : ℕ → ℕ → ℕ → ℕ → Type 0
 Passes word passed stride bit =
     (steps : ℕ) × IsTrue (has_bit word (bit + steps * stride)) × ((step : ℕ) → step < steps → IsTrue (has_bit passed (bit + step * stride)))
 
--- The words of a part are some bytes of a set: one, or also more if it is repeated.
-abbrev pub IsOfSet : List Bool → Bool → Shape → Type 0
-IsOfSet members repeated part = (line : List ℕ) (from to : ℕ) → Reads line part from to
-    ↔ (more : ℕ) × Chain (Reads line (set members)) (suc more) from to × ((more ≡ 0) ⊎ IsTrue repeated)
+-- whether a place has a mark
+abbrev pub is_marked : Mark → Place → Bool
+is_marked (Has byte) place = has place.members byte
+is_marked Optional place = place.optional
+is_marked Repeated place = place.repeated
 
--- The words of a part and the gaps around it are those of a place of a run, and its cells take no more words than one set.
+-- A word has a bit for each copy of each place that passes a test, the last place lowest.
+abbrev pub Marks : ℕ → ℕ → (Place → Bool) → List Place → Type 0
+Marks word copies test [] = Unit {0}
+Marks word copies test (place ∷ row) =
+    ((copy : ℕ) → copy < copies → has_bit word (length row * copies + copy) ≡ test place) × Marks word copies test row
+
+-- It has no other bits.
+pub record IsMarked (word copies : ℕ) (test : Place → Bool) (row : List Place) : Type 0 where
+  pub marks : Marks word copies test row
+  pub none : (bit : ℕ) → length row * copies ≤ bit → bit < 64 → has_bit word bit ≡ false
+
+-- For each byte there is a word that marks the places that have it.
+pub record AreMasks (masks : List ℕ) (copies : ℕ) (row : List Place) : Type 0 where
+  pub all : length masks ≡ 256
+  pub each : (byte : ℕ) → byte < 256 → IsMarked (slice_index masks byte) copies (is_marked (Has byte)) row
+
+-- Bytes of a place: one of its set, none if it is optional, or more if it is repeated.
+pub record IsOfPlace (place : Place) (line : List ℕ) (from to : ℕ) : Type 0 where
+  pub count : ℕ
+  pub chain : Chain (Reads line (set place.members)) count from to
+  pub enough : IsTrue place.optional ⊎ (0 < count)
+  pub few : (count ≤ 1) ⊎ IsTrue place.repeated
+
+-- bytes of each place, one after the other
+abbrev pub OfPlaces : List Place → List ℕ → Relation
+OfPlaces [] line from to = from ≡ to
+OfPlaces (place ∷ row) line from to = (middle : ℕ) × IsOfPlace place line from middle × OfPlaces row line middle to
+
+-- where all places of a row can be left out: everywhere or nowhere
+abbrev pub gaps_of_row : List Place → Gaps
+gaps_of_row row = if list_all (λ place. place.optional) row then everywhere else nowhere
+
+-- The words of a part are those of the places of a row that are not empty.
+abbrev pub ReadsRow : List Place → Shape → Type 0
+ReadsRow row part = (line : List ℕ) (from to : ℕ) → Reads line part from to ↔ (from < to) × OfPlaces row line from to
+
+-- With the gaps around it, a part has the words of one place.
 pub record IsPlace (place : Place) (part : Shape) (gaps : Gaps) : Type 0 where
-  pub reads : IsOfSet place.members place.repeated part
-  pub gap : gaps ≡ (if place.optional then everywhere else nowhere)
-  pub sized : (copies : ℕ) → size_of part copies ≡ words_for copies
+  pub reads : ReadsRow (place ∷ []) part
+  pub gap : gaps ≡ gaps_of_row (place ∷ [])
 
--- The words of a run are those of a part, the gaps around it are everywhere or nowhere, and its cells take no more words than a run.
-pub record IsRow (row : RowValue) (part : Shape) (gaps : Gaps) (copies : ℕ) : Type 0 where
-  pub whole : IsRun row.masks.items row.places copies
-  pub reads : (line : List ℕ) (from to : ℕ) → Reads line (run row.masks.items row.places) from to ↔ Reads line part from to
-  pub gap : gaps ≡ (if row.places.empty then everywhere else nowhere)
+-- A part is made of a row, and its cells take no more words than one set.
+pub record IsRunOf (row : List Place) (part : Shape) (copies : ℕ) : Type 0 where
+  pub reads : ReadsRow row part
+  pub whole : IsWhole part copies
   pub sized : size_of part copies ≡ words_for copies
-
--- The words of a part are those of two others, one after the other, and its cells take as much room as those of the second.
-pub record IsLonger (first second : Shape) (before after : Gaps) (longer : Shape) (copies : ℕ) : Type 0 where
-  pub reads : (sizes : Sizes) (line : List ℕ) (from to : ℕ) → Reads line longer from to ↔ Reads line (both first second sizes before after) from to
-  pub whole : IsWhole longer copies
-  pub sized : size_of longer copies ≡ size_of second copies

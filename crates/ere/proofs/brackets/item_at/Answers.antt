@@ -1,14 +1,15 @@
 use Rattle.std.proofs.Common.{◌+◌, sym, subst, drop, IsTrue, ◌∷◌, inl, inr}
+use Rattle.std.proofs.lemmas.Result.{IfOk-weaker}
 use Rattle.ere.specs.Brackets.{range_ahead, SpellsItem}
 use Rattle.ere.specs.Brackets.{SpellsItem as item}
 use Rattle.ere.specs.Private.Reading.{IsByteOrSymbol}
-use Rattle.ere.proofs.BracketSteps.{if_err, if_ok_map, if_err_map, plain_from, class_item, simple_item, range_item, no_low, no_range}
+use Rattle.ere.proofs.BracketSteps.{if_err, if_err_map, plain_from, class_item, simple_item, range_item, no_low, no_range}
 use Rattle.ere.proofs.BracketSteps.{IsAhead-range_ahead, may_begin_dash}
 use Rattle.ere.proofs.brackets.item_at.Goals as goal
 use Rattle.ere.proofs.brackets.item_at.Goals.{else-text-at-eq45-via-then-text-at-eq45+else-not-first, else-text-at-eq45-via-else-text-at-eq45}
 
 pub returns-then-opens-clause-ok : goal.returns-then-opens-clause-ok
-returns-then-opens-clause-ok c = if_ok_map c.class_at.result _ _ (λ r h. class_item c.args.first _ _ _ h) c.class_at.ensures.ok
+returns-then-opens-clause-ok c = IfOk-weaker c.class_at.result _ _ (λ r h. class_item c.args.first _ _ _ h) c.class_at.ensures.ok
 
 pub returns-then-opens-2-clause-ok : goal.returns-then-opens-2-clause-ok
 returns-then-opens-2-clause-ok c = item.equivalence c.in_ok-byte.byte c.in_ok-byte.ensures.ok c.single.ensures
@@ -29,7 +30,7 @@ returns-then-is_range_ahead-clause-ok c =
     let dash = (IsAhead-range_ahead c.args.text.now c.in_ok-low.after (sym c.if-is_range_ahead.ensures)).dash in
     let low : IsByteOrSymbol (drop c.args.at c.args.text.now) c.in_ok-low.low (45 ∷ drop (c.in_ok-low.after + 1) c.args.text.now) =
     subst (IsByteOrSymbol (drop c.args.at c.args.text.now) c.in_ok-low.low) dash.from c.in_ok-low.ensures.ok in
-    if_ok_map c.range_at.result _ _ (λ r (high, end, order, is).
+    IfOk-weaker c.range_at.result _ _ (λ r (high, end, order, is).
     range_item c.args.first _ _ _ high _ _ low (may_begin_dash c.args.text.now c.args.at c.args.first c.requires.no_end
     (elim c.else-text-at-eq45.branch [
       | else-text-at-eq45-via-then-text-at-eq45+else-not-first w ↦ inl w.if-not-first.false

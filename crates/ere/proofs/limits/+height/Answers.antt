@@ -1,10 +1,11 @@
 use Rattle.std.proofs.Common.{arith, ◌∙◌}
 use Rattle.ere.proofs.Sizes.{forms_back, forms_end, height-Empty, height-Set, height-Start, height-End, height-Cat, height-Alt}
-use Rattle.ere.proofs.Sizes.{height-Repeat, height-positive, highest-more, highest-none, never_low, leaf_low, inside_low, member_low, member_high, nothing_low}
+use Rattle.ere.proofs.Sizes.{height-Repeat, height-positive, highest-more, never_low, leaf_low, inside_low, member_low, member_high, nothing_low}
+use Rattle.ere.proofs.PartLemmas.{highest_none}
 use Rattle.ere.proofs.limits.+height.Goals as goal
 
 pub are_low-loop-i-init : goal.are_low-loop-i-init
-are_low-loop-i-init t c = rw (forms_end c.args.members.now, highest-none) (nothing_low c.args.most)
+are_low-loop-i-init t c = rw (forms_end c.args.members.now, highest_none) (nothing_low c.args.most)
 
 pub are_low-loop-i-preserved-then-is_low : goal.are_low-loop-i-preserved-then-is_low
 are_low-loop-i-preserved-then-is_low t c =

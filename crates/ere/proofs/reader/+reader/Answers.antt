@@ -1,19 +1,20 @@
 use Rattle.std.proofs.Common.{suc, add-one, arith, sym, subst, ap, drop, ◌∙◌, Some}
 use Rattle.std.proofs.lemmas.List.{drop_all}
+use Rattle.std.proofs.lemmas.Result.{IfOk-weaker}
 use Rattle.ere.specs.Spelling.{SpellsPiece as pieces_are, SpellsAtom as atoms}
 use Rattle.ere.specs.ByteSet.{single}
 use Rattle.ere.specs.Tokens.{SpellsToken}
 use Rattle.ere.specs.Tokens as token
 use Rattle.ere.specs.Tree.{at_start, at_end, set}
 use Rattle.ere.proofs.Forms.{form-Start, form-End, form-Set}
-use Rattle.ere.specs.Private.Reading.{meaning, ReadsAlternatives, NoAlternatives, NoDuplication}
+use Rattle.ere.specs.Private.Reading.{ReadsAlternatives, NoAlternatives, NoDuplication}
 use Rattle.ere.proofs.Texts.{front, Stands-begins}
-use Rattle.ere.proofs.BracketSteps.{if_err_but, if_err_map, if_ok_map}
+use Rattle.ere.proofs.BracketSteps.{if_err_but, if_err_map}
 use Rattle.ere.proofs.ReaderSteps.{alternatives_start, alternatives_step, branch_fails, branch_start, branch_step, closing, full_fails}
 use Rattle.ere.proofs.ReaderSteps.{group_reads, inner_fails, next_branch_fails, pass_on, unclosed_fails, group_fails, start_fails}
 use Rattle.ere.proofs.ReaderSteps.{end_fails, times_fail, tokenless, lexing_fails, back_fails, leaf_atom, leaf_piece, piece_of_atom}
 use Rattle.ere.proofs.ReaderSteps.{Reads-token, lone_close_atom, no_bar_begins, on_err_map, if_ok_both, height_set, height_start}
-use Rattle.ere.proofs.ReaderSteps.{height_end}
+use Rattle.ere.proofs.ReaderSteps.{height_end, spelled_as}
 use Rattle.ere.proofs.reader.+reader.Goals as goal
 
 pub alternatives-loop-alloc-init : goal.alternatives-loop-alloc-init
@@ -104,8 +105,7 @@ piece-group-requires t c =
     let after = c.in_ok-token.ensures.after in (
       omega (arith, after),
       (
-        subst (λ t. SpellsToken c.args.case (drop c.args.at c.args.text.now) (drop c.in_ok-token.after c.args.text.now) (meaning t))
-            c.in-Opens.is c.in_ok-token.ensures.ok,
+        spelled_as c.in-Opens.is c.in_ok-token.ensures.ok,
         (after.0, (after.1, c.requires.open_groups)),
       ),
     )
@@ -114,30 +114,26 @@ pub piece-returns-in_err-part-in-Opens-clause-err : goal.piece-returns-in_err-pa
 piece-returns-in_err-part-in-Opens-clause-err t c =
     pass_on c.from_residual-in_err-part-in-Opens.result _ _ _ _ c.from_residual-in_err-part-in-Opens.ensures.1
     (group_fails c.args.depth _ _
-    (subst (λ t. SpellsToken c.args.case (drop c.args.at c.args.text.now) (drop c.in_ok-token.after c.args.text.now) (meaning t))
-    c.in-Opens.is c.in_ok-token.ensures.ok))
+    (spelled_as c.in-Opens.is c.in_ok-token.ensures.ok))
     c.in_err-part-in-Opens.ensures.err
 
 pub piece-unreachable-requires : goal.piece-unreachable-requires
 piece-unreachable-requires t c =
     no_bar_begins c.args.depth _ _
-    (subst (λ t. SpellsToken c.args.case (drop c.args.at c.args.text.now) (drop c.in_ok-token.after c.args.text.now) (meaning t))
-    c.in-Bar.is c.in_ok-token.ensures.ok) c.requires.begins
+    (spelled_as c.in-Bar.is c.in_ok-token.ensures.ok) c.requires.begins
 
 pub piece-returns-in-Times-clause-err : goal.piece-returns-in-Times-clause-err
 piece-returns-in-Times-clause-err t c =
     λ _.
     times_fail c.args.depth _ _ _ _
-    (subst (λ t. SpellsToken c.args.case (drop c.args.at c.args.text.now) (drop c.in_ok-token.after c.args.text.now) (meaning t))
-    c.in-Times.is c.in_ok-token.ensures.ok)
+    (spelled_as c.in-Times.is c.in_ok-token.ensures.ok)
 
 pub piece-returns-in-AtStart-clause-ok : goal.piece-returns-in-AtStart-clause-ok
 piece-returns-in-AtStart-clause-ok t c =
     if_ok_both c.anchor.result _ _ _ (λ r stays built.
     leaf_piece c.args.depth _ _ token.at_start at_start r.0
     (subst (λ k. SpellsToken c.args.case (drop c.args.at c.args.text.now) (drop k c.args.text.now) token.at_start) (sym stays.0)
-    (subst (λ t. SpellsToken c.args.case (drop c.args.at c.args.text.now) (drop c.in_ok-token.after c.args.text.now) (meaning t))
-    c.in-AtStart.is c.in_ok-token.ensures.ok))
+    (spelled_as c.in-AtStart.is c.in_ok-token.ensures.ok))
     (λ rest. pieces_are.start) (built at_start form-Start height_start) (subst (λ k. NoDuplication c.args.case (drop k c.args.text.now)) (sym stays.0) stays.1))
     c.anchor.ensures.ok c.anchor.ensures.built
 
@@ -145,16 +141,14 @@ pub piece-returns-in-AtStart-clause-err : goal.piece-returns-in-AtStart-clause-e
 piece-returns-in-AtStart-clause-err t c =
     on_err_map c.anchor.result _ _ _
     (start_fails c.args.depth _ _
-    (subst (λ t. SpellsToken c.args.case (drop c.args.at c.args.text.now) (drop c.in_ok-token.after c.args.text.now) (meaning t))
-    c.in-AtStart.is c.in_ok-token.ensures.ok)) c.anchor.ensures.err
+    (spelled_as c.in-AtStart.is c.in_ok-token.ensures.ok)) c.anchor.ensures.err
 
 pub piece-returns-in-AtEnd-clause-ok : goal.piece-returns-in-AtEnd-clause-ok
 piece-returns-in-AtEnd-clause-ok t c =
     if_ok_both c.anchor-in-AtEnd.result _ _ _ (λ r stays built.
     leaf_piece c.args.depth _ _ token.at_end at_end r.0
     (subst (λ k. SpellsToken c.args.case (drop c.args.at c.args.text.now) (drop k c.args.text.now) token.at_end) (sym stays.0)
-    (subst (λ t. SpellsToken c.args.case (drop c.args.at c.args.text.now) (drop c.in_ok-token.after c.args.text.now) (meaning t))
-    c.in-AtEnd.is c.in_ok-token.ensures.ok))
+    (spelled_as c.in-AtEnd.is c.in_ok-token.ensures.ok))
     (λ rest. pieces_are.finish) (built at_end form-End height_end) (subst (λ k. NoDuplication c.args.case (drop k c.args.text.now)) (sym stays.0) stays.1))
     c.anchor-in-AtEnd.ensures.ok c.anchor-in-AtEnd.ensures.built
 
@@ -162,17 +156,15 @@ pub piece-returns-in-AtEnd-clause-err : goal.piece-returns-in-AtEnd-clause-err
 piece-returns-in-AtEnd-clause-err t c =
     on_err_map c.anchor-in-AtEnd.result _ _ _
     (end_fails c.args.depth _ _
-    (subst (λ t. SpellsToken c.args.case (drop c.args.at c.args.text.now) (drop c.in_ok-token.after c.args.text.now) (meaning t))
-    c.in-AtEnd.is c.in_ok-token.ensures.ok)) c.anchor-in-AtEnd.ensures.err
+    (spelled_as c.in-AtEnd.is c.in_ok-token.ensures.ok)) c.anchor-in-AtEnd.ensures.err
 
 pub piece-returns-in-Set-clause-ok : goal.piece-returns-in-Set-clause-ok
 piece-returns-in-Set-clause-ok t c =
     let atom =
     leaf_atom c.args.depth _ _ (token.set c.in-Set.members) (set c.in-Set.members) (Some c.leaf.result)
-    (subst (λ t. SpellsToken c.args.case (drop c.args.at c.args.text.now) (drop c.in_ok-token.after c.args.text.now) (meaning t))
-    c.in-Set.is c.in_ok-token.ensures.ok) (λ rest. atoms.literal)
+    (spelled_as c.in-Set.is c.in_ok-token.ensures.ok) (λ rest. atoms.literal)
     (c.leaf.ensures (set c.in-Set.members) (form-Set c.in-Set.members) (height_set c.in-Set.members)) in
-    if_ok_map c.repeated.result _ _ (λ r more. piece_of_atom c.args.depth _ _ _ (Some c.leaf.result) r.0 atom more) c.repeated.ensures.ok
+    IfOk-weaker c.repeated.result _ _ (λ r more. piece_of_atom c.args.depth _ _ _ (Some c.leaf.result) r.0 atom more) c.repeated.ensures.ok
 
 pub piece-returns-in-Set-clause-err : goal.piece-returns-in-Set-clause-err
 piece-returns-in-Set-clause-err t c =
@@ -180,13 +172,11 @@ piece-returns-in-Set-clause-err t c =
     tokenless c.args.depth _
     (back_fails _ _ _
     (Reads-token _ _ _
-    (subst (λ t.
-    SpellsToken c.args.case (drop c.args.at c.args.text.now) (drop c.in_ok-token.after c.args.text.now) (meaning t))
-    c.in-Set.is c.in_ok-token.ensures.ok)) (never kind))) c.repeated.ensures.err
+    (spelled_as c.in-Set.is c.in_ok-token.ensures.ok)) (never kind))) c.repeated.ensures.err
 
 pub piece-returns-in_ok-part-in-Opens-clause-ok : goal.piece-returns-in_ok-part-in-Opens-clause-ok
 piece-returns-in_ok-part-in-Opens-clause-ok t c =
-    if_ok_map c.repeated-in-Opens.result _ _
+    IfOk-weaker c.repeated-in-Opens.result _ _
     (λ r more. piece_of_atom c.args.depth _ _ _ c.in_ok-part-in-Opens.part r.0 c.in_ok-part-in-Opens.ensures.ok more)
     c.repeated-in-Opens.ensures.ok
 
@@ -201,9 +191,8 @@ piece-returns-in-Closes-clause-ok t c =
     let built = c.leaf-in-Closes.ensures (set (single 41)) (form-Set c.single-members.result ∙ ap set c.single-members.ensures) (height_set (single 41)) in
     let atom =
     lone_close_atom c.args.depth _ _ (Some c.leaf-in-Closes.result)
-    (subst (λ t. SpellsToken c.args.case (drop c.args.at c.args.text.now) (drop c.in_ok-token.after c.args.text.now) (meaning t))
-    c.in-Closes.is c.in_ok-token.ensures.ok) c.requires.begins built in
-    if_ok_map c.repeated-in-Closes.result _ _ (λ r more. piece_of_atom c.args.depth _ _ _ (Some c.leaf-in-Closes.result) r.0 atom more)
+    (spelled_as c.in-Closes.is c.in_ok-token.ensures.ok) c.requires.begins built in
+    IfOk-weaker c.repeated-in-Closes.result _ _ (λ r more. piece_of_atom c.args.depth _ _ _ (Some c.leaf-in-Closes.result) r.0 atom more)
     c.repeated-in-Closes.ensures.ok
 
 pub piece-returns-in-Closes-clause-err : goal.piece-returns-in-Closes-clause-err
@@ -212,6 +201,4 @@ piece-returns-in-Closes-clause-err t c =
     tokenless c.args.depth _
     (back_fails _ _ _
     (Reads-token _ _ _
-    (subst (λ t.
-    SpellsToken c.args.case (drop c.args.at c.args.text.now) (drop c.in_ok-token.after c.args.text.now) (meaning t))
-    c.in-Closes.is c.in_ok-token.ensures.ok)) (never kind))) c.repeated-in-Closes.ensures.err
+    (spelled_as c.in-Closes.is c.in_ok-token.ensures.ok)) (never kind))) c.repeated-in-Closes.ensures.err

@@ -1,8 +1,9 @@
 use Rattle.std.proofs.Common.{◌≡◌, true, false, drop, sym, ap, ◌∙◌, ◌||◌, arith}
+use Rattle.ere.proofs.Sizes.{forms_back, forms_end}
 use Rattle.ere.specs.Tree.{form}
 use Rattle.matcher.specs.Steps.{goes_far, some_go_far}
 use Rattle.matcher.proofs.StepLemmas.{goes_far-Empty, goes_far-Set, goes_far-Start, goes_far-End, goes_far-Cat, goes_far-Alt, goes_far-None, goes_far-Some}
-use Rattle.matcher.proofs.StepLemmas.{some_go_far-more, some_go_far-none, forms, forms_back, forms_end}
+use Rattle.matcher.proofs.StepLemmas.{some_go_far-more, some_go_far-none, forms}
 use Rattle.matcher.proofs.steps.+reach.Goals as goal
 
 pub goes_far-returns-in-Empty : goal.goes_far-returns-in-Empty

@@ -1,9 +1,10 @@
 use Rattle.std.proofs.Common.{◌≡◌, true, false, arith, sym, ◌∙◌, min, ap, ◌*◌}
+use Rattle.ere.proofs.Sizes.{forms_back, forms_end}
 use Rattle.ere.specs.Tree.{form}
 use Rattle.matcher.specs.StarHeight.{is_set}
 use Rattle.matcher.specs.Steps.{steps, steps_in}
 use Rattle.matcher.proofs.StepLemmas.{steps-Empty, steps-Set, steps-Start, steps-End, steps-Cat, steps-Alt, steps-Some, steps-of_set}
-use Rattle.matcher.proofs.StepLemmas.{steps-of_star, steps_in-more, steps_in-none, capped_any, forms, forms_back, forms_end}
+use Rattle.matcher.proofs.StepLemmas.{steps-of_star, steps_in-more, steps_in-none, capped_any, forms}
 use Rattle.matcher.proofs.steps.+steps.Goals as goal
 
 pub capped_steps-returns-in-Empty : goal.capped_steps-returns-in-Empty

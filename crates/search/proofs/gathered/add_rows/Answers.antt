@@ -1,5 +1,5 @@
 use Rattle.std.proofs.Common.{◌+◌, refl, ◌∙◌, ap, subst}
-use Rattle.search.specs.Prepared.{request_of}
+use Rattle.prepare.specs.Prepared.{request_of}
 use Rattle.search.specs.Private.Rows.{AreRowsOf}
 use Rattle.search.proofs.gathered.add_rows.Goals as goal
 

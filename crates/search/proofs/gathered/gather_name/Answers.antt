@@ -4,7 +4,7 @@ use Rattle.std.proofs.lemmas.Result.{on_ok_weaker}
 use Rattle.search.specs.Private.Added.{AddsUpTo}
 use Rattle.search.specs.Private.Documents.{lines_of_taken}
 use Rattle.search.specs.Selects.{IsAsked}
-use Rattle.search.specs.Tests.{test_of}
+use Rattle.prepare.specs.Tests.{test_of}
 use Rattle.search.proofs.FitLemmas.{rising, feedless}
 use Rattle.search.proofs.GathersLemmas.{asks-names, case-true, case-false, gathers-last, gathers-name, gathers-no_name}
 use Rattle.search.proofs.gathered.gather_name.Goals as goal

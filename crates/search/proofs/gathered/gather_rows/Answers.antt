@@ -2,13 +2,13 @@ use Rattle.std.proofs.Common.{◌≡◌, ◌+◌, length, map, refl, sym, ◌∙
 use Rattle.std.specs.Prelude.{All}
 use Rattle.std.specs.List.Sorted.{IsStrictlyIncreasing}
 use Rattle.std.proofs.lemmas.Result.{on_ok_weaker}
-use Rattle.search.specs.Prepared.{request_of}
+use Rattle.prepare.specs.Prepared.{request_of}
 use Rattle.search.specs.Private.Added.{AddsUpTo}
 use Rattle.search.specs.Private.Documents.{lines_of_taken}
 use Rattle.search.specs.Private.Seekers.{IsOneLine}
-use Rattle.search.specs.Scan.{Hit}
+use Rattle.views.specs.Found.{Hit}
 use Rattle.search.specs.Selects.{IsAsked}
-use Rattle.search.specs.Tests.{test_of}
+use Rattle.prepare.specs.Tests.{test_of}
 use Rattle.search.proofs.FitLemmas.{rising, feedless}
 use Rattle.search.proofs.GathersLemmas.{gathers-rows, gathers-no_rows, rows_if}
 use Rattle.search.proofs.gathered.gather_rows.Goals as goal

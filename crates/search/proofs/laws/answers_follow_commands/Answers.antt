@@ -3,8 +3,9 @@ use Rattle.index.specs.declared.command.Command.{Command}
 use Rattle.index.specs.Documents.{IsPutLast, document}
 use Rattle.index.specs.State.{state_of}
 use Rattle.index.proofs.PutLemmas.{IsDocument-Contains, Contains-IsPutLast}
-use Rattle.search.specs.Pattern.{Pattern}
-use Rattle.search.specs.Scan.{Hit, IsHit}
+use Rattle.prepare.specs.Pattern.{Pattern}
+use Rattle.views.specs.Found.{Hit}
+use Rattle.search.specs.Scan.{IsHit}
 use Rattle.search.specs.Commands.{IsHitOfPut}
 use Rattle.search.proofs.laws.answers_follow_commands.Goals as goal
 

@@ -1,7 +1,7 @@
 use Rattle.std.proofs.Common.{◌∷◌, ◌++◌, [], sym, ◌∙◌, ap, subst, arith}
 use Rattle.std.specs.Prelude.{All}
-use Rattle.search.specs.Tests.{test_of}
-use Rattle.search.specs.Places.{IsPlaced, hits_at}
+use Rattle.prepare.specs.Tests.{test_of}
+use Rattle.views.specs.Places.{IsPlaced, hits_at}
 use Rattle.search.specs.Selects.{IsAsked}
 use Rattle.search.specs.Private.Added.{AddsUpTo}
 use Rattle.search.specs.Private.Documents.{lines_of_taken}

@@ -1,9 +1,9 @@
 use Rattle.std.proofs.Common.{◌≡◌, ◌+◌, ◌-◌, refl, length, take, drop, arith}
 use Rattle.std.proofs.lemmas.List.{length-take, length-drop}
-use Rattle.search.specs.Tests.{test_of}
+use Rattle.prepare.specs.Tests.{test_of}
 use Rattle.lines.specs.Lines.{lines_of}
 use Rattle.index.specs.Text.{greatest_body}
-use Rattle.search.specs.Selects.{numbered, lines_of_document}
+use Rattle.views.specs.Found.{numbered, lines_of_document}
 use Rattle.search.proofs.PieceLemmas.{rest_of, short_pieces, room_for_lines, room_after, numbered-pieces}
 use Rattle.search.proofs.PlaceLemmas.{first_is_there, rest_is_there, go_on}
 use Rattle.search.proofs.UpToLemmas.{all_added, cut_here, last_added, reached, not_reached, selection_of_text}

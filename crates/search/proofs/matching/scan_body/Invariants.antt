@@ -1,10 +1,10 @@
 use Rattle.std.proofs.Common.{◌≡◌, ◌+◌, ◌≤◌, ℕ, false, List, length}
 use Rattle.ere.specs.Tree.{form}
-use Rattle.search.specs.Tests.{test_of}
+use Rattle.prepare.specs.Tests.{test_of}
 use Rattle.lines.specs.Lines.{lines_of}
 use Rattle.index.specs.Text.{greatest_body, has_long_line}
 use Rattle.search.specs.Private.Pieces.{IsPiece}
-use Rattle.search.specs.Selects.{numbered, lines_of_document}
+use Rattle.views.specs.Found.{numbered, lines_of_document}
 use Rattle.search.specs.Private.Added.{HasTextAt}
 use Rattle.search.specs.Private.Ways.{Finds}
 use Rattle.search.proofs.PlaceLemmas.{AddsSoFar}

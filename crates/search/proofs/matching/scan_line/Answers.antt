@@ -1,7 +1,8 @@
 use Rattle.std.proofs.Common.{◌∷◌, [], sym, ◌∙◌}
 use Rattle.std.proofs.lemmas.Bool.{false≢true}
-use Rattle.search.specs.Tests.{test_of}
-use Rattle.search.specs.Selects.{found, done, skip}
+use Rattle.prepare.specs.Tests.{test_of}
+use Rattle.views.specs.Found.{found}
+use Rattle.search.specs.Selects.{done, skip}
 use Rattle.search.proofs.PlaceLemmas.{no_place, line_place}
 use Rattle.search.proofs.matching.scan_line.Goals as goal
 

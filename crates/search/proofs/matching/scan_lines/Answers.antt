@@ -2,11 +2,11 @@ use Rattle.std.proofs.Common.{◌≡◌, ◌<◌, ◌+◌, ◌-◌, ◌∷◌, [
 use Rattle.std.proofs.lemmas.Bool.Decides.{nat_tests}
 use Rattle.std.proofs.lemmas.List.{length-take, length-drop}
 use Rattle.std.proofs.lemmas.Result.{on_ok_weaker}
-use Rattle.search.specs.Tests.{test_of}
+use Rattle.prepare.specs.Tests.{test_of}
 use Rattle.lines.specs.Lines.{lines_of}
-use Rattle.search.specs.Selects.{found, numbered}
+use Rattle.views.specs.Found.{found, numbered}
 use Rattle.search.specs.Private.Added.{AddsPlaces}
-use Rattle.search.proofs.LineLemmas.{length-first, length-last, short-rest, room-rest, numbered-first, numbered-last, numbered-empty}
+use Rattle.views.proofs.LineLemmas.{length-first, length-last, short-rest, room-rest, numbered-first, numbered-last, numbered-empty}
 use Rattle.search.proofs.PlaceLemmas.{first_is_there, rest_is_there, go_on, at_end, at_last}
 use Rattle.search.proofs.UpToLemmas.{first_all, cut_here, reached, selection_of_text}
 use Rattle.search.proofs.matching.scan_lines.Goals as goal

@@ -1,9 +1,9 @@
 use Rattle.std.proofs.Common.{◌≡◌, ◌+◌, ◌≤◌, ℕ, false, List, length}
 use Rattle.lines.specs.Lines.{lines_of}
 use Rattle.ere.specs.Tree.{form}
-use Rattle.search.specs.Tests.{test_of}
+use Rattle.prepare.specs.Tests.{test_of}
 use Rattle.index.specs.Text.{has_long_line}
-use Rattle.search.specs.Selects.{numbered}
+use Rattle.views.specs.Found.{numbered}
 use Rattle.search.specs.Private.Added.{HasTextAt}
 use Rattle.search.specs.Private.Ways.{Finds}
 use Rattle.search.proofs.PlaceLemmas.{AddsSoFar}

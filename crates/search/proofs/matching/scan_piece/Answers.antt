@@ -1,7 +1,7 @@
 use Rattle.std.proofs.Common.{subst}
 use Rattle.std.proofs.lemmas.Result.{on_ok_weaker}
 use Rattle.ere.specs.Tree.{form}
-use Rattle.search.specs.Tests.{test_of}
+use Rattle.prepare.specs.Tests.{test_of}
 use Rattle.search.specs.Private.Added.{AddsLinesUpTo}
 use Rattle.search.proofs.TestLemmas.{is_with_match}
 use Rattle.search.proofs.WayLemmas.{finder_of, finds_by}

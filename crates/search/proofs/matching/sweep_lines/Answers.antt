@@ -1,10 +1,10 @@
 use Rattle.std.proofs.Common.{◌≡◌, ◌≤◌, ◌+◌, ◌-◌, length, take, drop, sym, subst, arith}
 use Rattle.std.proofs.lemmas.List.{length-take, length-drop}
 use Rattle.lines.specs.Lines.{lines_of}
-use Rattle.search.specs.Selects.{numbered}
+use Rattle.views.specs.Found.{numbered}
 use Rattle.search.specs.Private.Added.{AddsPlaces}
 use Rattle.search.proofs.PlaceLemmas.{rest_is_there, no_place, go_on, at_last}
-use Rattle.search.specs.Pattern.{with_match}
+use Rattle.prepare.specs.Pattern.{with_match}
 use Rattle.search.proofs.SweepLemmas.{none_numbered, lines_through, numbered-through, numbered-to_end, first_place, left_after, room_left}
 use Rattle.search.proofs.UpToLemmas.{first_all, cut_here, reached, selection_of_text}
 use Rattle.search.proofs.matching.sweep_lines.Goals as goal

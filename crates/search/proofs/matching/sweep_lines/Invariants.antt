@@ -1,10 +1,10 @@
 use Rattle.std.proofs.Common.{◌≡◌, ◌+◌, ◌≤◌, ℕ, List, length}
 use Rattle.lines.specs.Lines.{lines_of}
 use Rattle.ere.specs.Tree.{Tree}
-use Rattle.finder.specs.Patterns.{IsFinderOf}
-use Rattle.search.specs.Selects.{numbered}
+use Rattle.engine.specs.Patterns.{IsFinderOf}
+use Rattle.views.specs.Found.{numbered}
 use Rattle.search.specs.Private.Added.{HasTextAt}
-use Rattle.search.specs.Pattern.{with_match}
+use Rattle.prepare.specs.Pattern.{with_match}
 use Rattle.search.proofs.PlaceLemmas.{AddsSoFar}
 use Rattle.search.proofs.matching.sweep_lines.Given as goal
 

@@ -1,7 +1,7 @@
 use Rattle.std.proofs.Common.{◌≡◌, map, get_or, subst, arith}
 use Rattle.std.proofs.lemmas.List.{take_all}
 use Rattle.search.specs.Selects.{Selects, IsNamedForAll}
-use Rattle.search.specs.Tests.{test_of}
+use Rattle.prepare.specs.Tests.{test_of}
 use Rattle.search.proofs.TestLemmas.{named_by_none, named_by_more}
 use Rattle.search.proofs.names.named.Goals as goal
 

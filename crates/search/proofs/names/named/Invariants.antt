@@ -1,5 +1,5 @@
 use Rattle.search.specs.Selects.{Selects, IsNamedForAll}
-use Rattle.search.proofs.TestLemmas.{first_tests}
+use Rattle.prepare.proofs.TestLemmas.{first_tests}
 use Rattle.search.proofs.names.named.Given as goal
 
 abbrev pub invariant-loop-test : goal.invariant-loop-test

@@ -3,7 +3,7 @@ use Rattle.std.proofs.lemmas.Bool.Decides.{nat_tests}
 use Rattle.std.proofs.lemmas.List.{nil_from_length}
 use Rattle.ere.specs.Tree.{form}
 use Rattle.search.specs.Selects.{IsNamed, Selects, done}
-use Rattle.search.specs.Tests.{test_of}
+use Rattle.prepare.specs.Tests.{test_of}
 use Rattle.search.proofs.WayLemmas.{finds_by_matcher}
 use Rattle.search.proofs.names.with_names.Goals as goal
 

@@ -2,7 +2,7 @@ use Rattle.std.proofs.Common.{◌≡◌, ◌≢◌, ◌<◌, ◌∷◌, ℕ, len
 use Rattle.std.specs.Vec.Iter.{into_iter_items}
 use Rattle.std.proofs.lemmas.Bool.{false≢true}
 use Rattle.std.proofs.lemmas.List.{nil_from_length}
-use Rattle.search.specs.Tests.{test_of}
+use Rattle.prepare.specs.Tests.{test_of}
 use Rattle.search.specs.Selects.{Selects, IsNamed}
 use Rattle.search.proofs.NameLemmas.{no_feed_in_name, keeps_one, keeps_none, keeps_end}
 use Rattle.search.proofs.TestLemmas.{passed_by_name}

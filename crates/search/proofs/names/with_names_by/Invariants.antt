@@ -1,7 +1,7 @@
 use Rattle.std.proofs.Common.{◌≡◌, length}
 use Rattle.std.specs.Vec.Iter.{into_iter_items, into_iter_len}
 use Rattle.ere.specs.Tree.{form}
-use Rattle.search.specs.Tests.{test_of}
+use Rattle.prepare.specs.Tests.{test_of}
 use Rattle.search.specs.Selects.{IsNamed}
 use Rattle.search.specs.Private.Ways.{Finds}
 use Rattle.search.proofs.NameLemmas.{KeepsSoFar}

@@ -1,9 +1,10 @@
 use Rattle.std.proofs.Common.{◌+◌}
 use Rattle.spans.specs.FirstStart.{HasNoStart, IsFirstStart}
-use Rattle.search.specs.Hits.{hit_of}
-use Rattle.search.specs.Prepared.{request_of}
-use Rattle.search.specs.Text.{text_of_row}
-use Rattle.search.specs.View.{at_column, hit, shown_tree}
+use Rattle.views.specs.Hits.{hit_of}
+use Rattle.prepare.specs.Prepared.{request_of}
+use Rattle.views.specs.Text.{text_of_row}
+use Rattle.views.specs.View.{at_column, hit}
+use Rattle.search.specs.Rows.{shown_tree}
 use Rattle.search.proofs.RowLemmas.{has_column, no_column}
 use Rattle.search.proofs.SeekerLemmas.{none_of, some_of}
 use Rattle.search.proofs.rows.append_column.Goals as goal

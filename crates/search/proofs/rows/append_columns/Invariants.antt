@@ -1,6 +1,6 @@
 use Rattle.std.specs.List.{All}
-use Rattle.search.specs.Prepared.{request_of}
-use Rattle.search.specs.View.{IsColumnRow, shown_tree}
+use Rattle.prepare.specs.Prepared.{request_of}
+use Rattle.search.specs.Rows.{IsColumnRow, shown_tree}
 use Rattle.search.specs.Private.Seekers.{IsOneLine, Seeks}
 use Rattle.search.proofs.RowLemmas.{RowsOfSoFar}
 use Rattle.search.proofs.rows.append_columns.Given as goal

@@ -1,8 +1,8 @@
 use Rattle.std.proofs.Common.{◌≡◌, ◌++◌, map, sym, ◌∙◌, ap}
 use Rattle.std.proofs.lemmas.List.{length-map}
-use Rattle.search.specs.Scan.{Hit}
-use Rattle.search.specs.Text.{text_of_hits, text_of_rows}
-use Rattle.search.specs.View.{hit}
+use Rattle.views.specs.Found.{Hit}
+use Rattle.views.specs.Text.{text_of_hits, text_of_rows}
+use Rattle.views.specs.View.{hit}
 use Rattle.search.proofs.RowLemmas.{text_of_shown}
 use Rattle.search.proofs.rows.append_hits.Goals as goal
 

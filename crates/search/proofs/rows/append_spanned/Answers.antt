@@ -1,11 +1,11 @@
 use Rattle.std.proofs.Common.{sym, ◌∙◌, subst}
 use Rattle.std.specs.List.{All}
 use Rattle.std.proofs.lemmas.List.Elements.{All-head, All-rest}
-use Rattle.search.specs.Hits.{hit_of}
-use Rattle.search.specs.Prepared.{request_of}
+use Rattle.views.specs.Hits.{hit_of}
+use Rattle.prepare.specs.Prepared.{request_of}
 use Rattle.search.specs.Private.Seekers.{IsOneLine}
-use Rattle.search.specs.Scan.{Hit}
-use Rattle.search.specs.View.{IsSpansRow}
+use Rattle.views.specs.Found.{Hit}
+use Rattle.search.specs.Rows.{IsSpansRow}
 use Rattle.search.proofs.RowLemmas.{each_begin, each_more, each_total}
 use Rattle.search.proofs.rows.append_spanned.Goals as goal
 

@@ -1,6 +1,6 @@
 use Rattle.std.specs.List.{All}
-use Rattle.search.specs.Prepared.{request_of}
-use Rattle.search.specs.View.{IsSpansRow, shown_tree}
+use Rattle.prepare.specs.Prepared.{request_of}
+use Rattle.search.specs.Rows.{IsSpansRow, shown_tree}
 use Rattle.search.specs.Private.Seekers.{IsOneLine, Seeks}
 use Rattle.search.proofs.RowLemmas.{RowsOfSoFar}
 use Rattle.search.proofs.rows.append_spanned.Given as goal

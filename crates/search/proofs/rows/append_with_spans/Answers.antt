@@ -1,7 +1,7 @@
 use Rattle.std.proofs.Common.{refl}
-use Rattle.search.specs.Hits.{hit_of}
-use Rattle.search.specs.Text.{text_of_place, text_of_row, text_of_spans}
-use Rattle.search.specs.View.{with_spans}
+use Rattle.views.specs.Hits.{hit_of}
+use Rattle.views.specs.Text.{text_of_place, text_of_row, text_of_spans}
+use Rattle.views.specs.View.{with_spans}
 use Rattle.search.proofs.RowLemmas.{shown_text}
 use Rattle.search.proofs.rows.append_with_spans.Goals as goal
 

@@ -1,6 +1,6 @@
 use Rattle.std.proofs.Common.{IfSome, sym, subst, ◌∙◌}
 use Rattle.ere.specs.Tree.{Tree, form}
-use Rattle.finder.specs.Patterns.{IsCompiledFrom}
+use Rattle.engine.specs.Patterns.{IsCompiledFrom}
 use Rattle.search.proofs.SeekerLemmas.{can_show, can_show_none}
 use Rattle.search.proofs.seeker.shown_seeker.Goals as goal
 

@@ -25,6 +25,17 @@ returns-in_default-clause-tried g c =
           (c.in_default.ensures.found tree (at.invariant.finder tree finds)),
     )
 
+pub returns-then-reaches_end-clause-tried : goal.returns-then-reaches_end-clause-tried
+unfolding IsTried
+returns-then-reaches_end-clause-tried g c =
+    let at = c.loop-tries in
+    λ tree finds is.
+    let before = at.invariant.none tree finds is in
+    let next = c.in-Some.ensures.found tree (at.invariant.finder tree finds) in
+    first_of_start c.args.line.now tree c.args.whole_words c.args.from c.in-Some.found.start c.in-Some.found.end (omega (arith, before.0, next.after))
+    (begin_at_start c.args.line.now tree c.args.whole_words c.args.from at.next c.in-Some.found.start c.in-Some.found.end before.1 next)
+    (c.reaches_end.ensures c.if-reaches_end.true tree next.is_match)
+
 pub returns-in-Some-longest_end-clause-tried : goal.returns-in-Some-longest_end-clause-tried
 unfolding IsTried
 returns-in-Some-longest_end-clause-tried g c =
@@ -32,23 +43,24 @@ returns-in-Some-longest_end-clause-tried g c =
     λ tree finds is.
     let before = at.invariant.none tree finds is in
     let next = c.in-Some.ensures.found tree (at.invariant.finder tree finds) in
-    first_of_start c.args.line.now tree c.args.whole_words c.args.from c.in-Some.start c.in-Some-longest_end.end (omega (arith, before.0, next.after))
-    (begin_at_start c.args.line.now tree c.args.whole_words c.args.from at.next c.in-Some.start before.1 next)
+    first_of_start c.args.line.now tree c.args.whole_words c.args.from c.in-Some.found.start c.in-Some-longest_end.end
+    (omega (arith, before.0, next.after))
+    (begin_at_start c.args.line.now tree c.args.whole_words c.args.from at.next c.in-Some.found.start c.in-Some.found.end before.1 next)
     (c.in-Some-longest_end.ensures.found tree (at.invariant.simulation tree is))
 
 pub loop-tries-preserved : goal.loop-tries-preserved
 loop-tries-preserved g c =
     let at = c.loop-tries in
     record {
-      finder = λ tree finds. c.next_start.ensures.same tree (at.invariant.finder tree finds);
+      finder = λ tree finds. c.next_match.ensures.same tree (at.invariant.finder tree finds);
       simulation = λ tree is. c.longest_end.ensures.same tree (at.invariant.simulation tree is);
       few = omega (arith, at.invariant.few);
       none = λ tree finds is.
           (let before = at.invariant.none tree finds is in
           let next = c.in-Some.ensures.found tree (at.invariant.finder tree finds) in (
             omega (arith, before.0, next.after),
-            begin_after c.args.line.now tree c.args.whole_words c.args.from c.in-Some.start
-                (begin_at_start c.args.line.now tree c.args.whole_words c.args.from at.next c.in-Some.start before.1 next)
+            begin_after c.args.line.now tree c.args.whole_words c.args.from c.in-Some.found.start
+                (begin_at_start c.args.line.now tree c.args.whole_words c.args.from at.next c.in-Some.found.start c.in-Some.found.end before.1 next)
                 (c.in_default-longest_end.ensures.found tree (at.invariant.simulation tree is)),
           ));
     }

@@ -1,6 +1,6 @@
 use Rattle.std.proofs.Common.{◌-◌, ◌≤◌}
 use Rattle.ere.specs.Tree.{Tree}
-use Rattle.finder.specs.Patterns.{IsFinderOf}
+use Rattle.engine.specs.Patterns.{IsFinderOf}
 use Rattle.simulation.specs.Simulations.{IsSimulationOf}
 use Rattle.spans.specs.Passes.{NoSpanBegins}
 use Rattle.search.proofs.seeker.try_each.Given as goal

@@ -1,10 +1,10 @@
 use Rattle.std.proofs.Common.{◌≡◌, ◌++◌, ◌∷◌, [], length, sym, ◌∙◌, ap, subst, arith}
 use Rattle.std.proofs.lemmas.Grind.{flat_map-append}
 use Rattle.std.proofs.lemmas.List.{append-nil}
-use Rattle.search.specs.Parts.{text_of_parts}
+use Rattle.views.specs.Parts.{text_of_parts}
 use Rattle.search.specs.Private.Gathered.{HasGap, gap_rows, shows_context, view_of}
-use Rattle.search.specs.Text.{text_of_rows}
-use Rattle.search.specs.View.{gap}
+use Rattle.views.specs.Text.{text_of_rows}
+use Rattle.views.specs.View.{gap}
 use Rattle.search.proofs.JoinLemmas.{gap-text}
 use Rattle.search.proofs.side_by_side.add_gap.Goals as goal
 

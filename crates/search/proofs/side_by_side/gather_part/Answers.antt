@@ -1,6 +1,6 @@
 use Rattle.std.proofs.Common.{◌++◌, ◌∷◌, [], ℕ, refl, ◌∙◌, ap}
 use Rattle.std.proofs.lemmas.List.{append-nil}
-use Rattle.search.specs.Parts.{text_of_parts}
+use Rattle.views.specs.Parts.{text_of_parts}
 use Rattle.search.proofs.JoinLemmas.{joins-one, no-gap}
 use Rattle.search.proofs.side_by_side.gather_part.Goals as goal
 

@@ -1,6 +1,6 @@
 use Rattle.std.proofs.Common.{◌+◌, ◌++◌, ◌∙◌, ap, refl}
 use Rattle.std.proofs.lemmas.Grind.{flat_map-append}
-use Rattle.search.specs.Parts.{text_of_parts}
+use Rattle.views.specs.Parts.{text_of_parts}
 use Rattle.search.proofs.JoinLemmas.{joins-both}
 use Rattle.search.proofs.side_by_side.join_parts.Goals as goal
 

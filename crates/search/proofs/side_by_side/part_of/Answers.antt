@@ -1,8 +1,8 @@
 use Rattle.std.proofs.Common.{◌≡◌, ◌++◌, take, drop, refl, sym, ◌∙◌, ap}
 use Rattle.std.specs.Prelude.{if◌then◌else◌}
 use Rattle.search.specs.Private.Gathered.{text_held}
-use Rattle.search.specs.Text.{text_of_hits}
-use Rattle.search.proofs.PartLemmas.{text-joined}
+use Rattle.views.specs.Text.{text_of_hits}
+use Rattle.views.proofs.PartLemmas.{text-joined}
 use Rattle.search.proofs.side_by_side.part_of.Goals as goal
 
 pub returns-then-not-wanted-clause-part : goal.returns-then-not-wanted-clause-part

@@ -3,9 +3,9 @@ use Rattle.query.specs.Query.{formula_of}
 use Rattle.index.proofs.StoredLemmas.{Numbered-rise}
 use Rattle.index.specs.Documents.{IsInNameOrder, is_chosen}
 use Rattle.index.specs.Shared.{documents_shared}
-use Rattle.search.specs.Front.{IsFrontOf}
-use Rattle.search.specs.Prepared.{pattern_of}
-use Rattle.search.specs.Tests.{test_of}
+use Rattle.prepare.specs.Front.{IsFrontOf}
+use Rattle.prepare.specs.Prepared.{pattern_of}
+use Rattle.prepare.specs.Tests.{test_of}
 use Rattle.search.proofs.CandidateLemmas.{counted, fewer, candidates_in_order}
 use Rattle.search.proofs.taken.take.Goals as goal
 

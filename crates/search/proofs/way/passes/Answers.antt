@@ -1,4 +1,4 @@
-use Rattle.search.specs.Tests.{test_of}
+use Rattle.prepare.specs.Tests.{test_of}
 use Rattle.search.proofs.TestLemmas.{passes_found, passes_not_found}
 use Rattle.search.proofs.way.passes.Goals as goal
 

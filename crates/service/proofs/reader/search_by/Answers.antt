@@ -1,7 +1,7 @@
 use Rattle.std.proofs.lemmas.Result.{IfOk-weaker}
 use Rattle.index.specs.State.{State, state_of}
-use Rattle.search.specs.Request.{Request}
-use Rattle.search.specs.Prepared.{request_of}
+use Rattle.prepare.specs.Request.{Request}
+use Rattle.prepare.specs.Prepared.{request_of}
 use Rattle.search.specs.Shown.{IsShownOf}
 use Rattle.search.specs.Taken.{IsTakenOf}
 use Rattle.service.proofs.reader.search_by.Goals as goal

@@ -1,13 +1,13 @@
-use Rattle.std.proofs.Common.{arith, refl}
-use Rattle.simulation.proofs.Masks as masks
+use Rattle.std.proofs.Common.{ap, ◌∙◌}
+use Rattle.simulation.specs.Parts.{shape}
+use Rattle.simulation.proofs.Rows as rows
+use Rattle.simulation.proofs.Shapes.{shape-Set, shape-Loop}
 use Rattle.simulation.proofs.run.one_place.Goals as goal
 
+pub returns-then-not-place : goal.returns-then-not-place
+returns-then-not-place c = rows.set_run _ _ _ (shape-Set c.args.place.now.members) c.if-not-place.true
+
 pub returns : goal.returns
-returns c = λ part gaps is_place.
-    let is_run = masks.single_is c.args.place.now c.in_ok-masks.masks.items _ c.args.copies c.requires (omega arith) refl refl refl c.in_ok-masks.ensures c.marks.ensures c.marks-2.ensures in
-    record {
-      whole = is_run;
-      reads = masks.single_reads c.args.place.now part gaps c.in_ok-masks.masks.items _ c.args.copies is_place is_run refl c.in_ok-masks.ensures c.marks-2.ensures;
-      gap = is_place.gap;
-      sized = is_place.sized c.args.copies;
-    }
+returns c =
+    rows.loop_run _ _ (shape c.in_ok-new.field-0.value) c.words_for.result _ (shape-Loop c.in_ok-new.field-0 c.words_for.result)
+    (ap shape c.in_ok-new.ensures.ok ∙ shape-Set c.args.place.now.members) c.words_for.ensures c.if-not-place.false

@@ -1,5 +1,5 @@
-use Rattle.std.proofs.lemmas.Result.{on_ok_weaker}
-use Rattle.transcript.proofs.WriteLemmas.{both_whole, front_of_second, on_err_weaker}
+use Rattle.std.proofs.lemmas.Result.{on_ok_weaker, on_err_weaker}
+use Rattle.transcript.proofs.WriteLemmas.{both_whole, front_of_second}
 use Rattle.transcript.proofs.output.write_behind.Goals as goal
 
 pub returns-clause-ok : goal.returns-clause-ok

@@ -1,10 +1,10 @@
 use Rattle.std.proofs.Common.{◌≡◌, ◌++◌, sym, ◌∙◌, ap, subst, List, ℕ}
-use Rattle.std.proofs.lemmas.Result.{on_ok_weaker}
-use Rattle.search.specs.Parts.{text_of_parts}
+use Rattle.std.proofs.lemmas.Result.{on_ok_weaker, on_err_weaker}
+use Rattle.views.specs.Parts.{text_of_parts}
 use Rattle.transcript.specs.Heads.{lines_of_entry}
 use Rattle.transcript.specs.Transcript.{text_of_entry}
 use Rattle.transcript.specs.Written.{AppendsAllBut, AppendsFront}
-use Rattle.transcript.proofs.WriteLemmas.{behind_head, on_err_weaker}
+use Rattle.transcript.proofs.WriteLemmas.{behind_head}
 use Rattle.transcript.proofs.output.write_entry.Goals as goal
 
 pub returns-in-Found-clause-ok : goal.returns-in-Found-clause-ok

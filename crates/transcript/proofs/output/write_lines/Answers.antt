@@ -1,4 +1,4 @@
-use Rattle.search.proofs.PartLemmas.{text-split}
+use Rattle.views.proofs.PartLemmas.{text-split}
 use Rattle.transcript.proofs.WriteLemmas.{done_in_part, done_more}
 use Rattle.transcript.proofs.output.write_lines.Goals as goal
 

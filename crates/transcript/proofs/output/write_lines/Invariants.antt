@@ -1,5 +1,5 @@
 use Rattle.std.proofs.Common.{◌++◌, length}
-use Rattle.search.specs.Text.{text_of_hits}
+use Rattle.views.specs.Text.{text_of_hits}
 use Rattle.transcript.proofs.WriteLemmas.{IsDoneTo}
 use Rattle.transcript.proofs.output.write_lines.Given as goal
 

@@ -1,6 +1,6 @@
 use Rattle.std.proofs.Common.{refl}
-use Rattle.search.specs.Text.{text_of_hits}
-use Rattle.search.proofs.PartLemmas.{text-parts}
+use Rattle.views.specs.Text.{text_of_hits}
+use Rattle.views.proofs.PartLemmas.{text-parts}
 use Rattle.transcript.proofs.WriteLemmas.{done_in_part, done_more, next_of_two}
 use Rattle.transcript.proofs.output.write_parts.Goals as goal
 

@@ -1,5 +1,5 @@
 use Rattle.std.proofs.Common.{◌++◌, drop}
-use Rattle.search.specs.Parts.{text_of_parts}
+use Rattle.views.specs.Parts.{text_of_parts}
 use Rattle.transcript.proofs.WriteLemmas.{IsDoneTo}
 use Rattle.transcript.proofs.output.write_parts.Given as goal
 

@@ -1,12 +1,12 @@
 use Rattle.std.proofs.Common.{◌≡◌, ◌∷◌, length, sym, ◌∙◌, ap, subst, arith, List}
 use Rattle.std.specs.Vec.Iter.{into_iter_items}
 use Rattle.std.proofs.lemmas.List.{nil_from_length}
-use Rattle.std.proofs.lemmas.Result.{on_ok_weaker}
+use Rattle.std.proofs.lemmas.Result.{on_ok_weaker, on_err_weaker}
 use Rattle.std.specs.Io.KnownBytes.{Appends}
 use Rattle.transcript.specs.declared.entry.Entry.{Entry}
 use Rattle.transcript.specs.Transcript.{text_of_transcript}
 use Rattle.transcript.specs.Written.{AppendsFront}
-use Rattle.transcript.proofs.WriteLemmas.{done_all, done_in_part, done_more, held_in_part, held_none, on_err_weaker}
+use Rattle.transcript.proofs.WriteLemmas.{done_all, done_in_part, done_more, held_in_part, held_none}
 use Rattle.transcript.proofs.output.write_transcript.Goals as goal
 
 pub returns-in-Err-clause-err : goal.returns-in-Err-clause-err

@@ -3,7 +3,7 @@ use Rattle.std.specs.Prelude.{codes, decimal}
 use Rattle.ere.specs.Faults.{reason_of}
 use Rattle.std.proofs.lemmas.List.{append-nil}
 use Rattle.std.proofs.lemmas.Result.{on_ok_weaker}
-use Rattle.search.specs.Text.{line_end}
+use Rattle.views.specs.Text.{line_end}
 use Rattle.transcript.proofs.texts.append_fault_at.Goals as goal
 
 ten : (a b c d e f g h i j : List ℕ)

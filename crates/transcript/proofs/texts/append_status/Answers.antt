@@ -2,7 +2,7 @@ use Rattle.std.proofs.Common.{◌≡◌, ◌++◌, ◌∙◌, ap, List, [], ℕ,
 use Rattle.std.specs.Prelude.{codes, decimal}
 use Rattle.std.proofs.lemmas.List.{append-nil}
 use Rattle.std.proofs.lemmas.Result.{on_ok_weaker}
-use Rattle.search.specs.Text.{line_end}
+use Rattle.views.specs.Text.{line_end}
 use Rattle.transcript.specs.Transcript.{status_line}
 use Rattle.transcript.proofs.texts.append_status.Goals as goal
 

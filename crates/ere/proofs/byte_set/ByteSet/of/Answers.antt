@@ -1,6 +1,7 @@
 use Rattle.std.proofs.Common.{◌≡◌, ◌&&◌, false, ap, sym, arith, ◌∙◌}
+use Rattle.std.proofs.Math.Bool.{and-false}
 use Rattle.ere.specs.ByteSet.{is_line_byte}
-use Rattle.ere.proofs.SetLemmas.{and_falls, of_none, of_more, of_same, of_all}
+use Rattle.ere.proofs.SetLemmas.{of_none, of_more, of_same, of_all}
 use Rattle.ere.proofs.byte_set.ByteSet.of.Goals as goal
 use Rattle.ere.proofs.byte_set.ByteSet.of.Goals.{then-is_line_byte+then-test, else-is_line_byte}
 use Rattle.ere.proofs.byte_set.ByteSet.of.Goals.{else-is_line_byte-via-then-is_line_byte+else-test, else-is_line_byte-via-else-is_line_byte}
@@ -16,7 +17,7 @@ loop-i-preserved g c = λ passes agree. elim c.if-is_line_byte.branch [
       let none : (is_line_byte c.loop-i.i && passes c.loop-i.i) ≡ false =
       elim w.else-is_line_byte.branch [
         | else-is_line_byte-via-then-is_line_byte+else-test w' ↦ ap (λ t. is_line_byte c.loop-i.i && t)
-            (sym (agree _ _ w'.test.ensures) ∙ w'.if-test.false) ∙ and_falls (is_line_byte c.loop-i.i)
+            (sym (agree _ _ w'.test.ensures) ∙ w'.if-test.false) ∙ and-false (is_line_byte c.loop-i.i)
         | else-is_line_byte-via-else-is_line_byte w' ↦ ap (λ t. t && passes c.loop-i.i) (sym c.is_line_byte.ensures ∙ w'.if-is_line_byte.false)
       ] in
       w.set-is ∙ of_same passes c.loop-i.set c.loop-i.i none (c.loop-i.invariant passes agree)

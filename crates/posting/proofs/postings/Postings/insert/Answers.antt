@@ -1,8 +1,8 @@
 use Rattle.std.proofs.Common.{◌||◌, ◌==◌, sym, ap, ◌∙◌}
+use Rattle.std.proofs.Math.Bool.{or-false}
 use Rattle.posting.specs.ListValue.{has}
 use Rattle.posting.specs.declared.pages.Slot.TheVariants.{Free, One}
 use Rattle.posting.specs.Private.Pages.{slot_of}
-use Rattle.posting.proofs.SetLemmas.{or-false}
 use Rattle.posting.proofs.Places.{written_here}
 use Rattle.posting.proofs.Widening.{set_here, set_there, set_written, list_other, slot_other, room_from_limit, free_here}
 use Rattle.posting.proofs.postings.Postings.insert.Goals as goal

@@ -1,7 +1,8 @@
-use Rattle.std.proofs.Common.{Bool, MatchOption, sym, subst}
+use Rattle.std.proofs.Common.{Bool, MatchOption, Some, ap, arith, false, refl, sym, subst, ◌∙◌}
 use Rattle.std.proofs.lemmas.Result.{IfOk-weaker}
 use Rattle.spans.specs.FirstStart.{HasNoStart, IsFirstStart}
-use Rattle.search.proofs.SeekerLemmas.{by_finder, finder_in}
+use Rattle.spans.specs.Passes.{HasNoEmpty, IsFirstEmpty}
+use Rattle.search.proofs.SeekerLemmas.{empty_first, finder_in, first_by_finder, some_of}
 use Rattle.search.proofs.seeker.Seeker.first_start.Goals as goal
 
 pub halved_start-requires : goal.halved_start-requires
@@ -22,8 +23,20 @@ returns-in-None-clause-found g c =
     subst (λ (w : Bool). MatchOption found (HasNoStart c.args.line.now tree w) (IsFirstStart c.args.line.now tree w)) (sym c.if-whole_words.false)
     (is tree seeks.simulation)) c.halved_start-in-None.ensures.found
 
-pub returns-in_ok-ask-in-Some-clause-found : goal.returns-in_ok-ask-in-Some-clause-found
-returns-in_ok-ask-in-Some-clause-found g c = λ tree seeks.
-    subst (λ (w : Bool). MatchOption c.next_start.result (HasNoStart c.args.line.now tree w) (IsFirstStart c.args.line.now tree w)) (sym c.if-whole_words.false)
-    (by_finder c.args.line.now tree c.next_start.result
-    (c.next_start.ensures.found tree (finder_in tree c.args.self.now c.in-Some.finder c.in-Some.is seeks)))
+pub first_empty-requires : goal.first_empty-requires
+first_empty-requires g c = (c.requires.seeks.0, c.requires.seeks.1.simulation)
+
+pub returns-in-Some-eq0-clause-found : goal.returns-in-Some-eq0-clause-found
+returns-in-Some-eq0-clause-found g c = λ tree seeks.
+    let line = c.args.line.now in
+    let empty =
+    some_of (HasNoEmpty line tree false) (IsFirstEmpty line tree false) c.first_empty.result 0 (c.in-Some-eq0.is ∙ ap Some c.in-Some-eq0.field-0-test)
+    (c.first_empty.ensures tree seeks.simulation) in
+    subst (λ (w : Bool). IsFirstStart line tree w 0) (sym c.if-whole_words.false)
+    (empty_first line tree false (Some 0) 0 refl empty (λ start end s. omega arith))
+
+pub returns-in-Some-next_match-clause-found : goal.returns-in-Some-next_match-clause-found
+returns-in-Some-next_match-clause-found g c = λ tree seeks.
+    subst (λ (w : Bool). IsFirstStart c.args.line.now tree w c.in-Some-next_match.found.start) (sym c.if-whole_words.false)
+    (first_by_finder c.args.line.now tree c.in-Some-next_match.found.start c.in-Some-next_match.found.end
+    (c.in-Some-next_match.ensures.found tree (finder_in tree c.args.self.now c.in-Some.finder c.in-Some.is seeks)))

@@ -1,8 +1,8 @@
 use Rattle.std.proofs.Common.{refl, sym, subst}
 use Rattle.index.specs.Shared.{documents_shared}
 use Rattle.search.specs.Front.{AreFronted}
-use Rattle.search.specs.Prepared.{request_of}
-use Rattle.search.specs.Request.{Request}
+use Rattle.prepare.specs.Prepared.{request_of}
+use Rattle.prepare.specs.Request.{Request}
 use Rattle.search.specs.Scan.{IsScanOf}
 use Rattle.search.proofs.AnswerLemmas.{hits-are}
 use Rattle.search.proofs.taken.Taken.answer_watched.Goals as goal

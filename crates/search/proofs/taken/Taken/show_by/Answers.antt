@@ -3,7 +3,7 @@ use Rattle.index.specs.Shared.{documents_shared}
 use Rattle.std.proofs.lemmas.Result.{IfOk-weaker}
 use Rattle.search.specs.Front.{AreFronted}
 use Rattle.search.specs.Private.Gathered.{HaveOwnNames, Joins, shown_with}
-use Rattle.search.specs.Request.{Request}
+use Rattle.prepare.specs.Request.{Request}
 use Rattle.search.specs.Scan.{candidates_of}
 use Rattle.search.specs.Shown.{IsShownOf}
 use Rattle.search.proofs.AnswerLemmas.{shown-is}

@@ -1,6 +1,6 @@
 use Rattle.std.proofs.Common.{◌≡◌, ap, subst}
 use Rattle.transcript.specs.declared.entry.SearchReason.TheVariants.{OutOfMemory}
-use Rattle.search.specs.Prepared.{request_of}
+use Rattle.prepare.specs.Prepared.{request_of}
 use Rattle.steps.specs.Asked.{Asks}
 use Rattle.service.specs.declared.taken.Taken.TheVariants.{Search}
 use Rattle.service.specs.Private.Closing.{IsRefused, asked_for, refused, with_search}

@@ -1,8 +1,0 @@
-//! Tests of the command line, by call: each public function does its work if memory is ample. They also test
-//! what no contract says.
-//!
-//! They are a separate crate because a crate with tests is proved twice: with its tests and without.
-#![tactic(auto)]
-
-#[cfg(test)]
-mod arguments;

@@ -1,0 +1,4 @@
+pub mod Translation
+pub mod FirstLine
+pub mod Patterns
+pub mod NextMatch

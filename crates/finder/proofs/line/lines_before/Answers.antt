@@ -1,6 +1,0 @@
-use Rattle.std.proofs.Common.{◌∙◌, take}
-use Rattle.finder.proofs.CutLemmas.{count_lines}
-use Rattle.finder.proofs.line.lines_before.Goals as goal
-
-pub returns : goal.returns
-returns c = c.line_feeds.ensures ∙ count_lines (take c.args.start c.args.text.now) c.requires.whole_lines

@@ -1,4 +1,0 @@
-pub mod Translation
-pub mod FirstLine
-pub mod Patterns
-pub mod Starts

@@ -1,0 +1,31 @@
+-- Items that own their bytes.
+use Rattle.std.specs.Prelude.{◌≡◌, ℕ, ◌<◌, List, length}
+use Rattle.index.specs.declared.body.TheConstants.{MAX_BODY}
+use Rattle.script.specs.Items.{Item, put, load, remove, publish, search, search_in, find, sync, cancel, status}
+use Rattle.script.specs.Items.{bad_line, bad_put, truncated, body_not_closed}
+use Rattle.input.specs.declared.owned.OwnedItem.{OwnedItem}
+use Rattle.input.specs.declared.owned.OwnedItem.TheVariants as variants
+
+-- the item, without the place of its bytes in memory; a body that was passed over is only known to be too long, or is not known
+abbrev pub ShowsOwned : OwnedItem → Item → Type 0
+ShowsOwned (variants.Put name body) item = item ≡ put name.items body.items
+ShowsOwned (variants.LongPut name) item = (body : List ℕ) × (item ≡ put name.items body) × (MAX_BODY < length body)
+ShowsOwned (variants.LostPut name) item = (body : List ℕ) × (item ≡ put name.items body)
+ShowsOwned (variants.Load name path) item = item ≡ load name.items path.items
+ShowsOwned (variants.Remove name) item = item ≡ remove name.items
+ShowsOwned variants.Publish item = item ≡ publish
+ShowsOwned (variants.Search case pattern) item = item ≡ search case pattern.items
+ShowsOwned (variants.SearchIn case name_pattern pattern) item = item ≡ search_in case name_pattern.items pattern.items
+ShowsOwned (variants.Find request) item = item ≡ find request.items
+ShowsOwned variants.Sync item = item ≡ sync
+ShowsOwned (variants.Cancel number) item = item ≡ cancel number
+ShowsOwned variants.Status item = item ≡ status
+ShowsOwned variants.BadLine item = item ≡ bad_line
+ShowsOwned variants.BadPut item = item ≡ bad_put
+ShowsOwned variants.Truncated item = item ≡ truncated
+ShowsOwned variants.BodyNotClosed item = item ≡ body_not_closed
+
+-- A put whose bytes were not kept.
+pub data HasNoBody : OwnedItem → Type 0 where
+  long : {name : _} → HasNoBody (variants.LongPut name)
+  lost : {name : _} → HasNoBody (variants.LostPut name)

@@ -1,0 +1,4 @@
+pub mod Lines
+pub mod Bytes
+pub mod Taking
+pub mod NextRead

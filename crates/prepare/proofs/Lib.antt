@@ -1,0 +1,4 @@
+mod AnchoredLemmas
+pub mod TestLemmas
+mod FrontLemmas
+mod RequestLemmas

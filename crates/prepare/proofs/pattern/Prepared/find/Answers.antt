@@ -1,0 +1,27 @@
+use Rattle.std.proofs.Common.{refl}
+use Rattle.std.proofs.lemmas.Result.{err_from_is_err_and}
+use Rattle.prepare.proofs.RequestLemmas.{have_trees}
+use Rattle.prepare.proofs.pattern.Prepared.find.Goals as goal
+
+pub returns-in-Ok-clause-request : goal.returns-in-Ok-clause-request
+returns-in-Ok-clause-request c =
+    let of = c.in-Ok.ensures.asked in
+    record {
+      tree = of.0;
+      is_tree = of.1;
+      line = of.2;
+      names = c.in_ok-names.ensures.tests;
+      word = of.3;
+      view = refl;
+      limit = refl;
+      zero = refl;
+    }
+
+pub returns-in-Err-clause-refused : goal.returns-in-Err-clause-refused
+returns-in-Err-clause-refused c =
+    λ real. (have_trees _ _ _ c.in_ok-names.ensures.tests, c.in-Err.ensures.refused real)
+
+pub returns-in_err-names-clause-refused : goal.returns-in_err-names-clause-refused
+returns-in_err-names-clause-refused c =
+    let p = err_from_is_err_and c.from_residual.result c.from_residual.ensures.1 in
+    rw (p.1, p.2) (λ real. c.in_err-names.ensures.refused real c.args.find.now.pattern.now)

@@ -1,0 +1,6 @@
+pub mod Beginnings
+pub mod Turns
+pub mod NameLemmas
+pub mod DocumentNames
+pub mod ShelfLemmas
+pub mod DeskLemmas

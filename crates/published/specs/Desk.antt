@@ -1,0 +1,57 @@
+-- What a desk has accepted and published.
+use Rattle.std.specs.Prelude.{◌≡◌, ℕ, ◌<◌, Bool, true, false, List, [], ◌∷◌, ◌++◌, length, is_some}
+use Rattle.logbook.specs.Pages.{Book}
+use Rattle.index.specs.declared.command.Command.{Command}
+use Rattle.index.specs.Documents.{documents_of, number_of}
+use Rattle.published.specs.declared.error.PutErrorKind.{PutErrorKind}
+use Rattle.published.specs.declared.error.PutErrorKind.TheVariants as put_error
+use Rattle.published.specs.declared.error.RemoveError.{RemoveError}
+use Rattle.published.specs.declared.error.RemoveError.TheVariants as remove_error
+use Rattle.published.specs.declared.error.Returned.{Returned}
+use Rattle.published.specs.declared.error.Returned.TheVariants.{Plain, Shared}
+
+-- the opening, the greatest number of commands, and the lists of the published and the accepted commands
+pub record DeskState : Type 0 where
+  pub opening : Book
+  pub limit : ℕ
+  pub published : List Command
+  pub accepted : List Command
+
+abbrev pub desk_state : Book → ℕ → List Command → List Command → DeskState
+desk_state opening limit published accepted = record { opening = opening; limit = limit; published = published; accepted = accepted }
+
+-- one more command is accepted
+abbrev pub with_command : Command → DeskState → DeskState
+with_command command desk = record desk { accepted = desk.accepted ++ command ∷ [] }
+
+-- all that is accepted is published
+abbrev pub all_published : DeskState → DeskState
+all_published desk = record desk { published = desk.accepted }
+
+-- the greatest number of commands has been accepted
+abbrev pub IsFull : DeskState → Type 0
+IsFull desk = length desk.accepted ≡ desk.limit
+
+-- there is room for one more command
+abbrev pub HasRoom : DeskState → Type 0
+HasRoom desk = length desk.accepted < desk.limit
+
+-- whether there is a document of this name after these commands
+abbrev pub has_document : List Command → List ℕ → Bool
+has_document commands name = is_some (number_of name (documents_of commands))
+
+-- the bytes of a body that is handed back
+abbrev pub returned_bytes : Returned → List ℕ
+returned_bytes (Plain body) = body
+returned_bytes (Shared held) = held
+
+-- the first cause for which a put is refused
+abbrev pub IsPutFault : PutErrorKind → DeskState → Type 0
+IsPutFault put_error.Full desk = IsFull desk
+IsPutFault put_error.OutOfMemory desk = HasRoom desk
+
+-- the first cause for which the remove of a name is refused
+abbrev pub IsRemoveFault : RemoveError → List ℕ → DeskState → Type 0
+IsRemoveFault remove_error.NoSuchFile name desk = has_document desk.accepted name ≡ false
+IsRemoveFault remove_error.Full name desk = (has_document desk.accepted name ≡ true) × IsFull desk
+IsRemoveFault remove_error.OutOfMemory name desk = (has_document desk.accepted name ≡ true) × HasRoom desk

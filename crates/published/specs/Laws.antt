@@ -1,0 +1,14 @@
+-- What a desk is refused for is determined.
+use Rattle.std.specs.Prelude.{◌≡◌, ℕ, List}
+use Rattle.published.specs.Desk.{DeskState, IsPutFault, IsRemoveFault}
+use Rattle.published.specs.declared.error.PutErrorKind.{PutErrorKind}
+use Rattle.published.specs.declared.error.RemoveError.{RemoveError}
+
+-- A put has one fault at most.
+abbrev pub PutFaultsAreOne : Type 0
+PutFaultsAreOne = (desk : DeskState) (fault fault' : PutErrorKind) → IsPutFault fault desk → IsPutFault fault' desk → fault ≡ fault'
+
+-- The remove of a name has one fault at most.
+abbrev pub RemoveFaultsAreOne : Type 0
+RemoveFaultsAreOne =
+    (desk : DeskState) (name : List ℕ) (fault fault' : RemoveError) → IsRemoveFault fault name desk → IsRemoveFault fault' name desk → fault ≡ fault'

@@ -1,0 +1,86 @@
+//! Why a call is refused.
+
+use index::{Body, Held, Name};
+use std::alloc::{AllocError, AllocFailed};
+
+/// Why an opening is refused.
+#[derive(Clone, Copy, Debug, PartialEq, Eq)]
+pub enum OpenError {
+    /// Memory ran out.
+    OutOfMemory,
+    /// A reading got no place: there are fewer places than readings.
+    NoPlace,
+}
+
+impl From<AllocError> for OpenError {
+    ghost use Rattle.std.specs.Prelude.{◌≡◌};
+    ghost use Rattle.published.specs.declared.error.OpenError.TheVariants.{OutOfMemory};
+
+    ghost from_gives = { λ _ e. e ≡ OutOfMemory };
+
+    fn from(_: AllocError) -> OpenError {
+        OpenError::OutOfMemory
+    }
+}
+
+impl<T: Drop> From<AllocFailed<T>> for OpenError {
+    ghost use Rattle.std.specs.Prelude.{◌≡◌};
+    ghost use Rattle.published.specs.declared.error.OpenError.TheVariants.{OutOfMemory};
+
+    ghost from_gives = { λ _ e. e ≡ OutOfMemory };
+
+    fn from(_: AllocFailed<T>) -> OpenError {
+        OpenError::OutOfMemory
+    }
+}
+
+/// Why a put is refused. The causes are checked in this order.
+#[derive(Clone, Copy, Debug, PartialEq, Eq)]
+pub enum PutErrorKind {
+    /// The greatest number of commands has been accepted already.
+    Full,
+    /// Memory ran out, or the name has too many handles.
+    OutOfMemory,
+}
+
+/// The body of a put that was refused.
+#[derive(Drop)]
+pub enum Returned {
+    /// As it was handed in.
+    Plain(Body),
+    /// As a shared body of the same bytes, which had been made of it before the refusal.
+    Shared(Held),
+}
+
+/// A put that was refused, with name and body handed back.
+#[derive(Drop)]
+pub struct PutError {
+    /// Why it was refused.
+    pub kind: PutErrorKind,
+    /// The name that was handed in.
+    pub name: Name,
+    /// The body that was handed in.
+    pub body: Returned,
+}
+
+/// Why a remove is refused. The causes are checked in this order.
+#[derive(Clone, Copy, Debug, PartialEq, Eq)]
+pub enum RemoveError {
+    /// There is no document of this name after all accepted commands.
+    NoSuchFile,
+    /// The greatest number of commands has been accepted already.
+    Full,
+    /// Memory ran out, or the name has too many handles.
+    OutOfMemory,
+}
+
+impl From<AllocError> for RemoveError {
+    ghost use Rattle.std.specs.Prelude.{◌≡◌};
+    ghost use Rattle.published.specs.declared.error.RemoveError.TheVariants.{OutOfMemory};
+
+    ghost from_gives = { λ _ e. e ≡ OutOfMemory };
+
+    fn from(_: AllocError) -> RemoveError {
+        RemoveError::OutOfMemory
+    }
+}

@@ -1,4 +1,0 @@
-pub mod Beginnings
-pub mod Adding
-pub mod FeedLemmas
-pub mod LawLemmas

@@ -1,4 +1,0 @@
-pub mod Read
-pub mod Next
-pub mod Laws
-pub mod Private

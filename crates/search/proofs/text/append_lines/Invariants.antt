@@ -1,5 +1,0 @@
-use Rattle.search.proofs.TextLemmas.{WritesSoFar}
-use Rattle.search.proofs.text.append_lines.Given as goal
-
-abbrev pub invariant-loop-hit : goal.invariant-loop-hit
-invariant-loop-hit l = WritesSoFar l.zero l.initial.out.items l.initial.hit-iterator l.hit-iterator l.out.items

@@ -1,7 +1,0 @@
-pub mod Beginnings
-pub mod Adding
-pub mod Turns
-pub mod NameLemmas
-pub mod DocumentNames
-pub mod ShelfLemmas
-pub mod DeskLemmas

@@ -1,5 +1,0 @@
-use Rattle.shared.proofs.Turns.{turns}
-use Rattle.shared.proofs.reading.enter.Goals as goal
-
-pub enter_as-requires : goal.enter_as-requires
-enter_as-requires g c x = turns _ _ x

@@ -1,5 +1,0 @@
-use Rattle.simulation.proofs.Shapes.{shape-Nothing}
-use Rattle.simulation.proofs.pack.no_bytes.Goals as goal
-
-pub returns-clause-part : goal.returns-clause-part
-returns-clause-part c = shape-Nothing

@@ -1,4 +1,0 @@
-pub mod Stream
-pub mod Laws
-pub mod Owned
-pub mod Private

@@ -1,0 +1,7 @@
+pub mod TextLemmas
+mod LineEnds
+pub mod LineLemmas
+pub mod RowLemmas
+mod NearLemmas
+pub mod PartLemmas
+mod ShownLemmas

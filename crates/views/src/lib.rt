@@ -1,0 +1,19 @@
+//! What is shown of an answer: the hits of an answer as places in its documents, the text of its rows, and what a client
+//! gets of it.
+#![tactic(auto)]
+
+mod answer;
+mod near;
+mod parts;
+mod places;
+mod row;
+mod shown;
+mod text;
+
+pub use answer::{Answer, Contents};
+pub use near::append_stretches;
+pub use parts::{Part, PartText};
+pub use places::{Hit, Lines, Place, Places};
+pub use row::{append_at_column, append_count, append_name, append_place, append_span};
+pub use shown::{Shown, ShownContents};
+pub use text::{PIECE, after_name, append_all, append_hit, append_lines, form_lines};
