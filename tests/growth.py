@@ -1061,7 +1061,7 @@ def publishes_change_one_copy(runs):
 def copies_are_brought_up_to_date_once(runs):
     """A session that waits for items brings the second copy up to date when it first waits after a publish, and not each time."""
     pending, shown = (runs.instructions_of_a_talk(SESSION_OF_ONE_READER, put(b"a", b"x") + b"publish\n" * count, 200) for count in (0, 1))
-    yield "instructions of the first thread for 200 waits behind a publish", shown - pending, -pending, 200 * 200
+    yield "instructions of the first thread for 200 waits behind a publish", shown - pending, -pending, 200 * 500
 
 
 def small_documents_are_searched_as_a_large_one(runs):
