@@ -1059,9 +1059,16 @@ def publishes_change_one_copy(runs):
 
 
 def copies_are_brought_up_to_date_once(runs):
-    """A session that waits for items brings the second copy up to date when it first waits after a publish, and not each time."""
+    """A session that waits for items brings the copies up to date when it first waits after a put or a publish, and not each time. A publish
+    does none of this again."""
     pending, shown = (runs.instructions_of_a_talk(SESSION_OF_ONE_READER, put(b"a", b"x") + b"publish\n" * count, 200) for count in (0, 1))
     yield "instructions of the first thread for 200 waits behind a publish", shown - pending, -pending, 200 * 500
+    copy = runs.instructions(SESSION, documents(1000) + b"publish\n") - runs.instructions(SESSION, documents(1000))
+    pending, once, twice = (
+        runs.instructions_of_a_talk(SESSION_OF_ONE_READER, documents(1000) + b"publish\n" * count, 20) for count in (0, 1, 2)
+    )
+    yield "instructions of the first thread for the second copy, where the first is there", once - pending, copy * 3 // 4, copy * 5 // 4
+    yield "instructions of the first thread for a second publish, beside the two copies", twice - once, -copy // 4, copy // 4
 
 
 def small_documents_are_searched_as_a_large_one(runs):

@@ -2,18 +2,17 @@
 use Rattle.std.proofs.Common.{◌≡◌, ℕ, Bool, true, false, List, [], ◌∷◌, ◌++◌, Option, Some, None, refl, sym, ap, ◌∙◌, subst, append_assoc, append-nil, true≢false}
 use Rattle.std.specs.Prelude.{OnSome}
 use Rattle.std.specs.Io.KnownBytes.{Consumes, IsAtEnd}
-use Rattle.std.proofs.KnownBytes.{Consumes-trans}
+use Rattle.std.proofs.KnownBytes.{Consumes-nil, Consumes-trans}
 use Rattle.script.specs.Items.{Item, Numbered, numbered, ItemsFrom, done, IsItemsOf}
 use Rattle.script.proofs.EveryTextLemmas.{some_items}
-use Rattle.input.specs.declared.item.StreamError.{StreamError}
-use Rattle.input.specs.Stream.{StreamState, IsItemOf, IsNextItem, IsLastItem}
+use Rattle.input.specs.declared.error.StreamError.{StreamError}
+use Rattle.input.specs.Stream.{StreamState, stream_at, Takes, IsItemOf, IsNextItem, IsLastItem}
 use Rattle.input.specs.Stream as last_item
 use Rattle.input.specs.Owned.{ShowsOwned}
 use Rattle.input.proofs.EndLemmas.{end_later}
 use Rattle.input.specs.declared.read_item.ReadItem.{ReadItem}
 use Rattle.input.specs.Read.{AreShown, none, one_more, HasItems, IsReadOf, IsAllOf, IsOver, at_end, at_fault, FeedState, feed_state}
 use Rattle.input.specs.Read.{IsReading, IsFinished, HasFailed, IsFedBy, IsFed, EndsBy}
-use Rattle.input.specs.Private.NextRead.{TakesRead}
 
 -- The items of an input begin with those of the bytes that were read, if more is to be read.
 has_first : (input left : Option (List ℕ)) (script : List ℕ) (items : List Numbered) (line : ℕ) → Consumes input left script
@@ -46,6 +45,16 @@ read_nothing input read is =
     let all = some_of_input input in
     subst (IsReadOf input) (sym is) (record { items = []; others = all.0; shown = none; first = all.1 })
 
+-- A feed that has read nothing.
+pub fed_nothing : (input left : Option (List ℕ)) (read : List ReadItem) (stream : StreamState) → left ≡ input → read ≡ [] → stream ≡ stream_at 1 false
+    → IsFed input (feed_state read stream None left)
+fed_nothing input left read stream whole nothing first =
+    let at_first : IsFed input (feed_state [] (stream_at 1 false) None input) =
+    record { script = []; items = []; consumed = Consumes-nil input; shown = none; goes_on = λ rest others h. h } in
+    subst (λ l. IsFed input (feed_state read stream None l)) (sym whole)
+    (subst (λ s. IsFed input (feed_state read s None input)) (sym first)
+    (subst (λ r. IsFed input (feed_state r (stream_at 1 false) None input)) (sym nothing) at_first))
+
 -- one more item at the end
 pub shown-append : (reads : List ReadItem) (items : List Numbered) (read : ReadItem) (item : Item) → ShowsOwned read.item item → AreShown reads items
     → AreShown (reads ++ read ∷ []) (items ++ numbered read.line item ∷ [])
@@ -76,7 +85,7 @@ module _ (input : Option (List ℕ)) (at : FeedState) (reading : IsReading input
   failed_now = ((reading.script ++ bytes, consumed_now), read_now input at reading)
 
   -- An item was read.
-  module _ (read : ReadItem) (new : StreamState) (takes : TakesRead at.stream read new bytes at.left left) where
+  module _ (read : ReadItem) (new : StreamState) (takes : Takes at.stream read new bytes at.left left) where
     abbrev this : Numbered
     this = numbered read.line takes.item
 
@@ -120,7 +129,7 @@ module _ (input : Option (List ℕ)) (at : FeedState) (fed : IsFed input at) (un
   reading_of going true is reads = absurd (going is)
 
   -- An item was read,
-  pub fed_item : (read : ReadItem) (new : StreamState) → TakesRead at.stream read new bytes at.left left → (at.stream.ended ≡ true → ⊥)
+  pub fed_item : (read : ReadItem) (new : StreamState) → Takes at.stream read new bytes at.left left → (at.stream.ended ≡ true → ⊥)
       → (reads : List ReadItem) → reads ≡ at.read ++ read ∷ [] → (failed : Option StreamError) → failed ≡ None
       → IsFed input (feed_state reads new failed left)
   fed_item read new takes going reads is failed clean =

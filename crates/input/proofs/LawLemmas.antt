@@ -4,7 +4,8 @@ use Rattle.script.specs.Items.{Numbered, numbered, ItemsFrom, done, other_line, 
 use Rattle.script.specs.Fields.{fields_of}
 use Rattle.script.proofs.EveryTextLemmas.{some_items}
 use Rattle.script.proofs.OneReading.{one_reading}
-use Rattle.input.specs.Stream.{Shows, IsItemOf, IsLastItem, at_end, at_fault}
+use Rattle.input.specs.Owned.{ShowsOwned}
+use Rattle.input.specs.Stream.{IsItemOf, IsLastItem, at_end, at_fault}
 use Rattle.input.specs.Laws.{NextLinesAreOne, TakenBytesHaveAnItem, TakenItemIsFirst, TakenItemsAreOne}
 
 module _ (line next : ℕ) (bytes : List ℕ) (item : Numbered) (was left : Option (List ℕ)) where
@@ -36,7 +37,7 @@ module _ (line next : ℕ) (bytes rest input : List ℕ) (item : Numbered) (whol
 pub first_item : TakenItemIsFirst
 first_item old new taken input bytes None consumed is = absurd consumed
 first_item old new taken input bytes (Some rest) consumed is =
-    (is.item, is.shows, first_by old.line new.line bytes rest input (numbered taken.line is.item) consumed taken.ended is.whole)
+    (is.item, is.shows, first_by old.line new.line bytes rest input (numbered taken.line is.item) consumed new.ended is.whole)
 
 -- the first of some items, or the one given if there are none
 abbrev first_or : Numbered → List Numbered → Numbered
@@ -49,11 +50,11 @@ second_or none (item ∷ items) = first_or none items
 
 pub one_item : TakenItemsAreOne
 one_item old new new' taken taken' bytes was was' left left' is is' =
-    let items = one_reading old.line bytes _ _ (alone old.line new.line bytes (numbered taken.line is.item) was left taken.ended is.whole)
-    (alone old.line new'.line bytes (numbered taken'.line is'.item) was' left' taken'.ended is'.whole) in
+    let items = one_reading old.line bytes _ _ (alone old.line new.line bytes (numbered taken.line is.item) was left new.ended is.whole)
+    (alone old.line new'.line bytes (numbered taken'.line is'.item) was' left' new'.ended is'.whole) in
     let same : numbered taken.line is.item ≡ numbered taken'.line is'.item = ap (first_or (numbered taken.line is.item)) items in (
       ap (λ (n : Numbered). n.line) same,
-      (is.item, is.shows, subst (Shows taken'.item) (sym (ap (λ (n : Numbered). n.item) same)) is'.shows),
+      (is.item, is.shows, subst (ShowsOwned taken'.item) (sym (ap (λ (n : Numbered). n.item) same)) is'.shows),
     )
 
 no_put : is_put (120 ∷ []) ≡ false
@@ -73,11 +74,11 @@ module _ (line next : ℕ) (bytes : List ℕ) (item : Numbered) (was left : Opti
 pub one_next_line : NextLinesAreOne
 one_next_line old new new' taken taken' bytes was was' left left' is is' goes_on goes_on' =
     let items = one_reading old.line (bytes ++ 120 ∷ []) _ _
-    (before_x old.line new.line bytes (numbered taken.line is.item) was left taken.ended goes_on is.whole)
-    (before_x old.line new'.line bytes (numbered taken'.line is'.item) was' left' taken'.ended goes_on' is'.whole) in
+    (before_x old.line new.line bytes (numbered taken.line is.item) was left new.ended goes_on is.whole)
+    (before_x old.line new'.line bytes (numbered taken'.line is'.item) was' left' new'.ended goes_on' is'.whole) in
     ap (λ (items : List Numbered). (second_or (numbered taken.line is.item) items).line) items
 
 pub has_an_item : TakenBytesHaveAnItem
 has_an_item old new taken bytes was left is none =
-    let items = one_reading old.line bytes _ _ none (alone old.line new.line bytes (numbered taken.line is.item) was left taken.ended is.whole) in
+    let items = one_reading old.line bytes _ _ none (alone old.line new.line bytes (numbered taken.line is.item) was left new.ended is.whole) in
     cc

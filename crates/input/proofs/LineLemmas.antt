@@ -6,26 +6,26 @@ use Rattle.std.specs.Option.{OnSome}
 use Rattle.std.specs.Io.KnownBytes.{Consumes, IsAtEnd}
 use Rattle.std.proofs.KnownBytes.{Consumes-trans}
 use Rattle.script.specs.Items.{ItemsFrom, done, blank_line, ended, last, IsLine, is_blank}
-use Rattle.input.specs.declared.item.StreamError.{StreamError}
-use Rattle.input.specs.declared.line.Piece.{Piece}
-use Rattle.input.specs.declared.line.Piece.TheVariants.{More, LineFeed, InputEnd}
+use Rattle.input.specs.declared.error.StreamError.{StreamError}
+use Rattle.input.specs.declared.line.After.{After}
+use Rattle.input.specs.declared.line.After.TheVariants.{More, LineFeed, InputEnd}
 use Rattle.input.specs.declared.line.LineStart.{LineStart}
-use Rattle.input.specs.Private.Lines.{IsPart, Grows, IsLineTaken, Skips, TakesLine, IsNextLine, line_feed_if}
+use Rattle.input.specs.Private.Lines.{IsPiece, Grows, IsLineTaken, Skips, TakesLine, IsNextLine, line_feed_if}
 use Rattle.input.proofs.EndLemmas.{end_later}
 
 pub line-append : (front back : List ℕ) → IsLine front → IsLine back → IsLine (front ++ back)
 line-append [] back p q = q
 line-append (b ∷ front) back p q = (p.0, line-append front back p.1 q)
 
-pub grows_by_part : (piece : Piece) (shown line old new : List ℕ) (taken : ℕ) (was left : Option (List ℕ)) → IsPart shown line taken piece
-    → new ≡ old ++ line → (length shown ≡ 0 → OnSome was (IsAtEnd left)) → Grows old (Ok piece) new (take taken shown) was left
-grows_by_part More shown line old new taken was left part grown end = (subst IsLine (sym part.1) part.0, grown ∙ ap (λ l. old ++ l) (sym part.1))
-grows_by_part LineFeed shown line old new taken was left part grown end = (line, part.1, part.0, grown)
-grows_by_part InputEnd shown line old new taken was left part grown end =
-    (ap (λ n. take n shown) part.1, grown ∙ ap (λ l. old ++ l) part.0 ∙ append-nil old, end part.2)
+pub grows_by_piece : (after : After) (shown line old new : List ℕ) (taken : ℕ) (was left : Option (List ℕ)) → IsPiece shown line taken after
+    → new ≡ old ++ line → (length shown ≡ 0 → OnSome was (IsAtEnd left)) → Grows old (Ok after) new (take taken shown) was left
+grows_by_piece More shown line old new taken was left is grown end = (subst IsLine (sym is.1) is.0, grown ∙ ap (λ l. old ++ l) (sym is.1))
+grows_by_piece LineFeed shown line old new taken was left is grown end = (line, is.1, is.0, grown)
+grows_by_piece InputEnd shown line old new taken was left is grown end =
+    (ap (λ n. take n shown) is.1, grown ∙ ap (λ l. old ++ l) is.0 ∙ append-nil old, end is.2)
 
 module _ (start mid left : Option (List ℕ)) (old new bytes : List ℕ) (is : IsLine old) (before : Consumes start mid old)
-    (taken : Consumes mid left bytes) (r : Result Piece StreamError) (grown : Grows old r new bytes mid left) where
+    (taken : Consumes mid left bytes) (r : Result After StreamError) (grown : Grows old r new bytes mid left) where
   pub line_goes_on : r ≡ Ok More → IsLine new × Consumes start left new
   line_goes_on e =
       let more = subst (λ r. Grows old r new bytes mid left) e grown in (

@@ -6,10 +6,11 @@ use Rattle.script.specs.Items.{ended, last, IsLine, IsPutLine, is_blank, is_put,
 use Rattle.script.specs.Items.{body_not_closed}
 use Rattle.std.specs.declared.result.Result.{Result}
 use Rattle.std.specs.Io.KnownBytes.{Consumes, IsAtEnd}
-use Rattle.input.specs.declared.item.StreamError.{StreamError}
-use Rattle.input.specs.declared.item.StreamItem.{StreamItem}
+use Rattle.input.specs.declared.error.StreamError.{StreamError}
+use Rattle.input.specs.declared.owned.OwnedItem.{OwnedItem}
 use Rattle.input.specs.declared.stream.Step.{Step}
-use Rattle.input.specs.Stream.{IsItemOf, IsNextItem, IsLastItem, at_end, at_fault, Shows}
+use Rattle.input.specs.Stream.{IsItemOf, IsNextItem, IsLastItem, at_end, at_fault}
+use Rattle.input.specs.Owned.{ShowsOwned}
 use Rattle.input.specs.Private.Lines.{Skips}
 use Rattle.input.specs.Private.Taking.{IsStep, TakesItem}
 use Rattle.input.proofs.EndLemmas.{end_later}
@@ -96,21 +97,21 @@ module _ (first n : ℕ) (skipped line bytes more : List ℕ) (item : Item) (who
       (skips ((line ++ 10 ∷ more) ++ rest) (numbered n item ∷ items) (step rest items h))
   item_after_skipped None was mid left taken step = last_by was mid left taken step
 
-pub last_after_skipped : (first n : ℕ) (skipped line bytes : List ℕ) (item : Item) → bytes ≡ skipped ++ (line ++ []) → Skips first skipped n
-    → ItemsFrom n line (numbered n item ∷ [])
-    → ItemsFrom first bytes (numbered n item ∷ [])
-last_after_skipped first n skipped line bytes item whole skips is =
-    let text : bytes ≡ skipped ++ line = whole ∙ ap (λ l. skipped ++ l) (append-nil line) in
-    subst (λ t. ItemsFrom first t (numbered n item ∷ [])) (sym text) (skips line (numbered n item ∷ []) is)
+-- an item of a line that the input's end closes, if there is memory for it
+pub last_owned : (r : Result OwnedItem StreamError) (line : List ℕ) (item : Item) → IfOk r (λ owned. ShowsOwned owned item)
+    → ((number : ℕ) → ItemsFrom number line (numbered number item ∷ []))
+    → IfOk r (λ owned. (shown : Item) × ShowsOwned owned shown × ((number : ℕ) → ItemsFrom number line (numbered number shown ∷ [])))
+last_owned (Ok owned) line item shows is = (item, shows, is)
+last_owned (Err error) line item shows is = tt
 
 -- an item after which the reading goes on, if the number of the next line fits
-pub takes_next : (r : Result Step StreamError) (number lines : ℕ) (line bytes : List ℕ) (was left : Option (List ℕ)) (found : StreamItem)
+pub takes_next : (r : Result Step StreamError) (number lines : ℕ) (line bytes : List ℕ) (was left : Option (List ℕ)) (found : OwnedItem)
     (item : Item) → IfOk r (λ step. (step.item ≡ found) × (step.next ≡ Some (number + lines)) × (number + lines < 2 ^ 32))
-    → Shows found item
+    → ShowsOwned found item
     → (number + lines < 2 ^ 32 → IsNextItem number (line ++ 10 ∷ bytes) (numbered number item) (number + lines)) → TakesItem number line r bytes was left
 takes_next (Err error) number lines line bytes was left found item is shows whole = tt
 takes_next (Ok step) number lines line bytes was left found item is shows whole = record {
   item = item;
-  shows = subst (λ f. Shows f item) (sym is.0) shows;
+  shows = subst (λ f. ShowsOwned f item) (sym is.0) shows;
   whole = subst (λ next. IsStep number (line ++ 10 ∷ bytes) item next was left) (sym is.1) (whole is.2);
 }

@@ -24,8 +24,3 @@ ShowsOwned variants.BadLine item = item ≡ bad_line
 ShowsOwned variants.BadPut item = item ≡ bad_put
 ShowsOwned variants.Truncated item = item ≡ truncated
 ShowsOwned variants.BodyNotClosed item = item ≡ body_not_closed
-
--- A put whose bytes were not kept.
-pub data HasNoBody : OwnedItem → Type 0 where
-  long : {name : _} → HasNoBody (variants.LongPut name)
-  lost : {name : _} → HasNoBody (variants.LostPut name)

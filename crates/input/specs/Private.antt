@@ -1,4 +1,3 @@
 pub mod Lines
 pub mod Bytes
 pub mod Taking
-pub mod NextRead

@@ -2,7 +2,7 @@
 use Rattle.std.specs.Prelude.{◌≡◌, ◌-◌, ℕ, Bool, true, false, List, [], ◌∷◌, ◌++◌, length, take, Option, Some, None, OnSome}
 use Rattle.std.specs.Io.KnownBytes.{Consumes, IsAtEnd}
 use Rattle.script.specs.Items.{Item, Numbered, numbered, ItemsFrom, IsItemsOf}
-use Rattle.input.specs.declared.item.StreamError.{StreamError}
+use Rattle.input.specs.declared.error.StreamError.{StreamError}
 use Rattle.input.specs.Stream.{StreamState}
 use Rattle.input.specs.Owned.{ShowsOwned}
 use Rattle.input.specs.declared.read_item.ReadItem.{ReadItem}

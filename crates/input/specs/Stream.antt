@@ -1,14 +1,11 @@
 -- What a stream of items takes from its input.
-use Rattle.std.specs.Prelude.{◌≡◌, ◌⊎◌, ℕ, ◌<◌, List, [], ◌∷◌, ◌++◌, length, Option, Some, None, Ok, Err, Bool, true, false, IsTrue, OnSome, ⊤}
+use Rattle.std.specs.Prelude.{◌⊎◌, ℕ, List, [], ◌∷◌, ◌++◌, Option, Some, None, Ok, Err, Bool, true, false, IsTrue, OnSome, ⊤}
 use Rattle.std.specs.declared.result.Result.{Result}
 use Rattle.std.specs.Io.KnownBytes.{IsAtEnd}
-use Rattle.index.specs.declared.body.TheConstants.{MAX_BODY}
-use Rattle.script.specs.Items.{Item, Numbered, numbered, ItemsFrom, put}
-use Rattle.script.specs.Reading.{shown_item}
-use Rattle.input.specs.declared.item.StreamItem.{StreamItem}
-use Rattle.input.specs.declared.item.StreamItem.TheVariants as variants
-use Rattle.input.specs.declared.item.TakenItem.{TakenItem}
-use Rattle.input.specs.declared.item.StreamError.{StreamError}
+use Rattle.script.specs.Items.{Item, Numbered, numbered, ItemsFrom}
+use Rattle.input.specs.Owned.{ShowsOwned}
+use Rattle.input.specs.declared.read_item.ReadItem.{ReadItem}
+use Rattle.input.specs.declared.error.StreamError.{StreamError}
 
 -- the number of the line that comes next, and whether the reading has ended
 pub record StreamState : Type 0 where
@@ -18,13 +15,6 @@ pub record StreamState : Type 0 where
 -- the state of a stream, by its parts
 abbrev pub stream_at : ℕ → Bool → StreamState
 stream_at line ended = record { line = line; ended = ended }
-
--- the item, without the place of its bytes in memory; a body that was passed over is only known to be too long, or is not known
-abbrev pub Shows : StreamItem → Item → Type 0
-Shows (variants.Put name body) item = item ≡ put name.now body.items
-Shows (variants.LongPut name) item = (body : List ℕ) × (item ≡ put name.now body) × (MAX_BODY < length body)
-Shows (variants.LostPut name) item = (body : List ℕ) × (item ≡ put name.now body)
-Shows (variants.Other other) item = item ≡ shown_item other
 
 -- The bytes begin at the line of the first number: lines that are skipped, and then this item. What follows them begins at the line of
 -- the second number.
@@ -45,14 +35,13 @@ IsItemOf true line bytes item next was left = IsLastItem line bytes item was lef
 
 -- An item was taken from an input, as these bytes. `was` is what the input had before them, and `left` what it has
 -- after them.
-pub record Takes (old : StreamState) (taken : TakenItem) (new : StreamState) (bytes : List ℕ) (was left : Option (List ℕ)) : Type 0 where
+pub record Takes (old : StreamState) (read : ReadItem) (new : StreamState) (bytes : List ℕ) (was left : Option (List ℕ)) : Type 0 where
   pub item : Item
-  pub shows : Shows taken.item item
-  pub whole : IsItemOf taken.ended old.line bytes (numbered taken.line item) new.line was left
-  pub ended : new.ended ≡ taken.ended
+  pub shows : ShowsOwned read.item item
+  pub whole : IsItemOf new.ended old.line bytes (numbered read.line item) new.line was left
 
 -- What a call returns, if these bytes were taken from the input.
-abbrev pub IsNext : StreamState → Result (Option TakenItem) StreamError → StreamState → List ℕ → Option (List ℕ) → Option (List ℕ) → Type 0
-IsNext old (Ok (Some taken)) new bytes was left = Takes old taken new bytes was left
+abbrev pub IsNext : StreamState → Result (Option ReadItem) StreamError → StreamState → List ℕ → Option (List ℕ) → Option (List ℕ) → Type 0
+IsNext old (Ok (Some read)) new bytes was left = Takes old read new bytes was left
 IsNext old (Ok None) new bytes was left = ItemsFrom old.line bytes [] × IsTrue new.ended × (IsTrue old.ended ⊎ OnSome was (IsAtEnd left))
 IsNext old (Err error) new bytes was left = ⊤

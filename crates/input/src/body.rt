@@ -4,7 +4,7 @@ ghost use Rattle.std.specs.Prelude.{◌≡◌, ℕ, ◌+◌, ◌≤◌, ◌<◌,
 ghost use Rattle.std.specs.Io.KnownBytes.{Consumes};
 ghost use Rattle.input.specs.Private.Bytes.{Counts, Appends, Fills, PassesPiece, Passes, IsNextByte, Looks, IsClosing, Holds, IsPutBytes};
 
-use crate::item::StreamError;
+use crate::error::StreamError;
 use crate::line::{append, interrupted};
 use index::MAX_BODY;
 use script::line_feeds;
@@ -102,16 +102,16 @@ fn fill<I: BufRead>(input: &mut I, size: usize, body: &mut Vec<u8>) -> Result<()
     Err(StreamError::CannotRead)
 }
 
-/// A piece that was skipped.
+/// A piece that was passed over.
 #[derive(Clone, Copy, Debug)]
-struct Piece {
+struct PassedPiece {
     passed: Passed,
     /// `false` if the input has ended. It is `true` after an interrupted read too, which passes over nothing.
     more: bool,
 }
 
 /// Passes over what the reader has, at most `most` bytes. It reads once if the reader has nothing.
-fn pass_piece<I: BufRead>(input: &mut I, most: usize) -> Result<Piece, StreamError>
+fn pass_piece<I: BufRead>(input: &mut I, most: usize) -> Result<PassedPiece, StreamError>
     ensures { (bytes : List ℕ) × Consumes (I.remaining input.old) (I.remaining input.new) bytes
         × PassesPiece most result bytes (I.remaining input.old) (I.remaining input.new) }
 {
@@ -119,7 +119,7 @@ fn pass_piece<I: BufRead>(input: &mut I, most: usize) -> Result<Piece, StreamErr
         Ok(shown) => shown,
         Err(error) => {
             interrupted(&error)?;
-            return Ok(Piece {
+            return Ok(PassedPiece {
                 passed: count(&[]),
                 more: true,
             });
@@ -129,7 +129,7 @@ fn pass_piece<I: BufRead>(input: &mut I, most: usize) -> Result<Piece, StreamErr
     let taken = shown.len().min(most);
     let passed = count(&shown[..taken]);
     input.consume(taken);
-    Ok(Piece { passed, more })
+    Ok(PassedPiece { passed, more })
 }
 
 /// Passes over `size` bytes, or fewer if the input ends first. None of them is kept.

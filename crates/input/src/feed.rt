@@ -1,16 +1,13 @@
 //! The reading of an input.
 
-ghost use Rattle.std.specs.Prelude.{◌≡◌, ℕ, true, false, List, [], Option, None, Ok};
-ghost use Rattle.std.specs.Io.KnownBytes.{Consumes};
+ghost use Rattle.std.specs.Prelude.{◌≡◌, true, false, [], None};
 ghost use Rattle.input.specs.Stream.{stream_at};
 ghost use Rattle.input.specs.Read.{feed_state, end_state};
 ghost use Rattle.input.specs.Next.{Comes, HasEnded};
-ghost use Rattle.input.specs.Private.NextRead.{IsNextRead};
 
 use crate::fronts::{Book, Front, Naming};
 use crate::message::{Ended, Next, Sent};
-use crate::read_item::ReadItem;
-use crate::{ItemStream, OwnedItem, StreamError};
+use crate::{ItemStream, StreamError};
 use std::alloc::Global;
 use std::io::BufRead;
 use std::marker::Model;
@@ -19,15 +16,12 @@ use std::marker::Model;
 /// what it has read is known to be of the input that the history is of.
 #[derive(Drop)]
 pub struct Feed<K: Naming, I: BufRead + Drop> {
-    alloc: Global,
     book: Book<K>,
     read: Front<K>,
     stream: ItemStream,
     /// The error that ended the reading.
     failed: Option<StreamError>,
     input: I,
-    /// The line of an item.
-    text: Vec<u8>,
 }
 
 impl<K: Naming, I: BufRead + Drop> Model for Feed<K, I> {
@@ -48,13 +42,11 @@ impl<K: Naming, I: BufRead + Drop> Feed<K, I> {
         ensures { result ≡ feed_state [] (stream_at 1 false) None (I.remaining input) }
     {
         Feed {
-            alloc,
             book,
             read,
             stream: ItemStream::new(alloc),
             failed: None,
             input,
-            text: Vec::new(alloc),
         }
     }
 
@@ -62,9 +54,7 @@ impl<K: Naming, I: BufRead + Drop> Feed<K, I> {
     /// at the end of the input, after a fault that ends it, or with an error. Nothing is read after the end, and each
     /// later call returns the same end.
     ///
-    /// The error is `CannotRead` if the input cannot be read, `OutOfMemory` if there is no memory for a line or for the
-    /// item, `LineTooLong` if a line has more than `script::MAX_SCRIPT` bytes, or `TooManyLines` if the number of the
-    /// line after the item, or after a skipped line, would not fit in 32 bits.
+    /// The error is that of `crate::ItemStream::next_item`.
     pub fn next(&mut self) -> Next<K>
         ensures comes { Comes self.old result self.new }
         ensures over { HasEnded self.old → (result ≡ Next.End (end_state self.old.read self.old.failed)) × (self.new.left ≡ self.old.left) }
@@ -72,12 +62,7 @@ impl<K: Naming, I: BufRead + Drop> Feed<K, I> {
         if self.failed.is_some() {
             return self.end();
         }
-        match take_item(
-            self.alloc,
-            &mut self.stream,
-            &mut self.input,
-            &mut self.text,
-        ) {
+        match self.stream.next_item(&mut self.input) {
             Ok(Some(item)) => match Sent::after(&self.read, &self.book, item) {
                 Some(sent) => {
                     self.read = sent.read.again();
@@ -105,29 +90,5 @@ impl<K: Naming, I: BufRead + Drop> Feed<K, I> {
             read: self.read.again(),
             failed: self.failed,
         })
-    }
-}
-
-/// Takes the next item from the input.
-fn take_item<I: BufRead>(
-    alloc: Global,
-    stream: &mut ItemStream,
-    input: &mut I,
-    text: &mut Vec<u8>,
-) -> Result<Option<ReadItem>, StreamError>
-    ensures taken { (bytes : List ℕ) × Consumes (I.remaining input.old) (I.remaining input.new) bytes
-        × IsNextRead stream.old result stream.new bytes (I.remaining input.old) (I.remaining input.new) }
-    ensures over { stream.old.ended ≡ true → (result ≡ Ok None) × (input.new ≡ input.old) }
-{
-    match stream.next_item(input, text) {
-        Ok(Some(taken)) => {
-            let line = taken.line;
-            match OwnedItem::of(alloc, taken.item) {
-                Ok(item) => Ok(Some(ReadItem { line, item })),
-                Err(_) => Err(StreamError::OutOfMemory),
-            }
-        }
-        Ok(None) => Ok(None),
-        Err(error) => Err(error),
     }
 }

@@ -3,10 +3,10 @@
 #![tactic(auto)]
 
 mod body;
+mod error;
 mod feed;
 mod fronts;
 mod inbox;
-mod item;
 mod laws;
 mod line;
 mod message;
@@ -14,10 +14,10 @@ mod owned;
 mod read_item;
 mod stream;
 
+pub use error::StreamError;
 pub use feed::Feed;
 pub use fronts::{Book, Front, Naming, Opened};
 pub use inbox::{Inbox, InboxError};
-pub use item::{StreamError, StreamItem, TakenItem};
 pub use laws::{read_items_are_first, taken_item_is_first, taken_items_are_one};
 pub use message::{Ended, Next, Sent};
 pub use owned::OwnedItem;

@@ -3,17 +3,16 @@
 ghost use Rattle.std.specs.Prelude.{◌≡◌, ◌≢◌, ℕ, ◌+◌, ◌^◌, ◌<◌, ◌≤◌, ◌++◌, List, [], length, IfOk, IfErr, OnOk};
 ghost use Rattle.std.specs.Io.KnownBytes.{Consumes};
 ghost use Rattle.std.specs.IoError.{error_kind};
-ghost use Rattle.script.specs.Items.{is_blank};
-ghost use Rattle.input.specs.Private.Lines.{IsPart, Grows, IsLineTaken, IsNextLine};
+ghost use Rattle.input.specs.Private.Lines.{IsPiece, Grows, IsLineTaken, IsNextLine};
 
-use crate::item::StreamError;
+use crate::error::StreamError;
 use memchr::memchr;
-use script::MAX_SCRIPT;
+use script::{MAX_SCRIPT, is_blank_line};
 use std::io::{BufRead, Error, ErrorKind};
 
-/// How a line goes on after a piece of it.
+/// What comes after a piece of a line.
 #[derive(Clone, Copy, Debug)]
-enum Piece {
+enum After {
     /// More of it follows, or its end.
     More,
     /// Its line feed was taken too.
@@ -22,34 +21,34 @@ enum Piece {
     InputEnd,
 }
 
-/// The front of some bytes, as a piece of a line.
+/// A piece of a line, at the front of some bytes.
 #[derive(Clone, Copy, Debug)]
-struct Part<'a> {
-    /// The piece, without a line feed.
-    line: &'a [u8],
+struct Piece<'a> {
+    /// Its text, without a line feed.
+    text: &'a [u8],
     /// The number of its bytes, with its line feed if it has one.
     taken: usize,
-    piece: Piece,
+    after: After,
 }
 
 /// The piece up to the first line feed, or all bytes if there is none.
-fn part_of(shown: &[u8]) -> Part<'_>
-    ensures part { IsPart shown.now result.line.now result.taken result.piece }
+fn piece_of(shown: &[u8]) -> Piece<'_>
+    ensures piece { IsPiece shown.now result.text.now result.taken result.after }
     ensures within { result.taken ≤ length shown.now }
 {
     match memchr(b'\n', shown) {
-        Some(at) => Part {
-            line: &shown[..at],
+        Some(at) => Piece {
+            text: &shown[..at],
             taken: at + 1,
-            piece: Piece::LineFeed,
+            after: After::LineFeed,
         },
-        None => Part {
-            line: shown,
+        None => Piece {
+            text: shown,
             taken: shown.len(),
-            piece: if shown.is_empty() {
-                Piece::InputEnd
+            after: if shown.is_empty() {
+                After::InputEnd
             } else {
-                Piece::More
+                After::More
             },
         },
     }
@@ -72,7 +71,8 @@ pub fn interrupted(error: &Error) -> Result<(), StreamError>
 ///
 /// An `Err` is `OutOfMemory`: memory ran out.
 pub fn append(text: &mut Vec<u8>, bytes: &[u8]) -> Result<(), StreamError>
-    ensures { IfOk result (λ _. text.new.items ≡ text.old.items ++ bytes.now) }
+    ensures appended { IfOk result (λ _. text.new.items ≡ text.old.items ++ bytes.now) }
+    ensures err { IfErr result (λ error. error ≡ StreamError.OutOfMemory) }
 {
     match text.extend_from_slice(bytes) {
         Ok(()) => Ok(()),
@@ -93,7 +93,7 @@ fn append_piece(text: &mut Vec<u8>, piece: &[u8]) -> Result<(), StreamError>
 
 /// Takes what the reader has of a line, up to its line feed, and appends it to the text. It reads once if the
 /// reader has nothing. An interrupted read takes nothing, and the result is `More`.
-fn take_piece<I: BufRead>(input: &mut I, text: &mut Vec<u8>) -> Result<Piece, StreamError>
+fn take_piece<I: BufRead>(input: &mut I, text: &mut Vec<u8>) -> Result<After, StreamError>
     ensures { (bytes : List ℕ) × Consumes (I.remaining input.old) (I.remaining input.new) bytes
         × Grows text.old.items result text.new.items bytes (I.remaining input.old) (I.remaining input.new) }
 {
@@ -101,14 +101,14 @@ fn take_piece<I: BufRead>(input: &mut I, text: &mut Vec<u8>) -> Result<Piece, St
         Ok(shown) => shown,
         Err(error) => {
             interrupted(&error)?;
-            return Ok(Piece::More);
+            return Ok(After::More);
         }
     };
-    let part = part_of(shown);
-    let (taken, piece) = (part.taken, part.piece);
-    append_piece(text, part.line)?;
+    let piece = piece_of(shown);
+    let (taken, after) = (piece.taken, piece.after);
+    append_piece(text, piece.text)?;
     input.consume(taken);
-    Ok(piece)
+    Ok(after)
 }
 
 /// Takes a line into `text`, without its line feed, and returns whether a line feed ended it. If not, the input's
@@ -119,11 +119,11 @@ fn take_line<I: BufRead>(input: &mut I, text: &mut Vec<u8>) -> Result<bool, Stre
 {
     text.clear();
     for _ in 0..u64::MAX {
-        let piece = take_piece(input, text)?;
-        match piece {
-            Piece::More => {}
-            Piece::LineFeed => return Ok(true),
-            Piece::InputEnd => return Ok(false),
+        let after = take_piece(input, text)?;
+        match after {
+            After::More => {}
+            After::LineFeed => return Ok(true),
+            After::InputEnd => return Ok(false),
         }
     }
     Err(StreamError::CannotRead)
@@ -156,7 +156,7 @@ pub fn next_line<I: BufRead>(
     let mut line = first;
     loop {
         let closed = take_line(input, text)?;
-        if !is_blank(text.as_slice()) {
+        if !is_blank_line(text.as_slice()) {
             return Ok(Some(LineStart { line, closed }));
         }
         if !closed {
@@ -173,14 +173,5 @@ fn next_number(line: u32) -> Result<u32, StreamError>
     match line.checked_add(1) {
         Some(next) => Ok(next),
         None => Err(StreamError::TooManyLines),
-    }
-}
-
-fn is_blank(line: &[u8]) -> bool
-    ensures { result ≡ is_blank line.now }
-{
-    match line.first() {
-        None => true,
-        Some(b) => *b == b'#',
     }
 }

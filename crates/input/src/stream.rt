@@ -3,16 +3,18 @@
 ghost use Rattle.std.specs.Prelude.{◌≡◌, ◌+◌, ◌<◌, ◌^◌, List, [], ◌∷◌, ℕ, Ok, Some};
 ghost use Rattle.std.specs.Prelude.{None, true, false, length, is_none, unwrap_or, OnErr, IfOk, IfSome, IsFalse};
 ghost use Rattle.std.specs.Io.KnownBytes.{Consumes};
-ghost use Rattle.script.specs.Items.{numbered, put, IsLine, IsPutLine, ItemsFrom, is_blank};
-ghost use Rattle.script.specs.Reading.{shown_item};
-ghost use Rattle.input.specs.Stream.{StreamState, stream_at, IsNext, Shows};
+ghost use Rattle.script.specs.Items.{Item, numbered, put, IsLine, IsPutLine, ItemsFrom, is_blank};
+ghost use Rattle.input.specs.Owned.{ShowsOwned};
+ghost use Rattle.input.specs.Stream.{stream_at, IsNext};
 ghost use Rattle.input.specs.Private.Bytes.{Holds};
 ghost use Rattle.input.specs.Private.Taking.{TakesItem};
 
 use crate::body::{Closing, PutBody, close, take_bytes};
-use crate::item::{StreamError, StreamItem, TakenItem};
+use crate::error::StreamError;
 use crate::line::next_line;
-use script::{Item, Line, read_line};
+use crate::owned::copy_of;
+use crate::{OwnedItem, ReadItem};
+use script::{Line, read_line};
 use std::alloc::Global;
 use std::io::BufRead;
 use std::marker::Model;
@@ -26,6 +28,8 @@ pub struct ItemStream {
     alloc: Global,
     line: u32,
     ended: bool,
+    /// The line that was read last.
+    text: Vec<u8>,
 }
 
 impl Model for ItemStream {
@@ -37,8 +41,7 @@ impl Model for ItemStream {
 }
 
 impl ItemStream {
-    /// A stream at the first byte of an input. The first line has the number 1. `alloc` is for the bodies
-    /// of puts, and for the text that replaces a long one.
+    /// A stream at the first byte of an input. The first line has the number 1. `alloc` is for the lines and the items.
     pub fn new(alloc: Global) -> ItemStream
         ensures { result ≡ stream_at 1 false }
     {
@@ -46,29 +49,25 @@ impl ItemStream {
             alloc,
             line: 1,
             ended: false,
+            text: Vec::new(alloc),
         }
     }
 
     /// Takes the next item from the input, and waits for no byte after the item's last one, which is the line
     /// feed of its line or the byte after a put's body. Empty lines and comments are skipped.
     ///
-    /// Pass the same input to all calls on a stream. `text` is overwritten with the item's line, from which the
-    /// item's name and texts are borrowed.
+    /// Pass the same input to all calls on a stream.
     ///
     /// `None` means that the input ended without a further item, or that the reading had ended in an earlier
-    /// call: with an item whose `TakenItem::ended` is `true`, with `None`, or with an error.
+    /// call: with the input's end or a fault that ends it, or with an error.
     ///
     /// # Errors
     ///
-    /// `CannotRead` if the input cannot be read, `OutOfMemory` if there is no memory for a line, `LineTooLong` if
-    /// a line has more than `script::MAX_SCRIPT` bytes, and `TooManyLines` if the number of the line after the item,
-    /// or after a skipped line, would not fit in 32 bits. The reading ends at an error. Interrupted reads are tried
-    /// again.
-    pub fn next_item<'t, I: BufRead>(
-        &mut self,
-        input: &mut I,
-        text: &'t mut Vec<u8>,
-    ) -> Result<Option<TakenItem<'t>>, StreamError>
+    /// `CannotRead` if the input cannot be read, `OutOfMemory` if there is no memory for a line or for the item,
+    /// `LineTooLong` if a line has more than `script::MAX_SCRIPT` bytes, and `TooManyLines` if the number of the line
+    /// after the item, or after a skipped line, would not fit in 32 bits. The reading ends at an error. Interrupted reads
+    /// are tried again.
+    pub fn next_item<I: BufRead>(&mut self, input: &mut I) -> Result<Option<ReadItem>, StreamError>
         ensures taken { (bytes : List ℕ) × Consumes (I.remaining input.old) (I.remaining input.new) bytes
             × IsNext self.old result self.new bytes (I.remaining input.old) (I.remaining input.new) }
         ensures over { self.old.ended ≡ true → (result ≡ Ok None) × (input.new ≡ input.old) }
@@ -78,27 +77,23 @@ impl ItemStream {
             return Ok(None);
         }
         self.ended = true;
-        renew(self.alloc, text);
-        let start = match next_line(input, self.line, text) {
+        renew(self.alloc, &mut self.text);
+        let start = match next_line(input, self.line, &mut self.text) {
             Ok(Some(start)) => start,
             Ok(None) => return Ok(None),
             Err(error) => return Err(error),
         };
+        let line = start.line;
         if !start.closed {
-            return Ok(Some(TakenItem {
-                line: start.line,
-                item: StreamItem::Other(last_item(text.as_slice())),
-                ended: true,
-            }));
+            return match last_item(self.alloc, self.text.as_slice()) {
+                Ok(item) => Ok(Some(ReadItem { line, item })),
+                Err(error) => Err(error),
+            };
         }
-        match take_item(self.alloc, input, start.line, text.as_slice()) {
-            Ok(step) => {
-                self.go_on(step.next);
-                Ok(Some(TakenItem {
-                    line: start.line,
-                    item: step.item,
-                    ended: step.next.is_none(),
-                }))
+        match take_item(self.alloc, input, line, self.text.as_slice()) {
+            Ok(Step { item, next }) => {
+                self.go_on(next);
+                Ok(Some(ReadItem { line, item }))
             }
             Err(error) => Err(error),
         }
@@ -123,34 +118,35 @@ fn renew(alloc: Global, text: &mut Vec<u8>) {
     }
 }
 
-/// The item of a line that the input's end closes.
-fn last_item(line: &[u8]) -> Item<'_>
+/// The item of a line that the input's end closes. `OutOfMemory` if there is no memory for it.
+fn last_item(alloc: Global, line: &[u8]) -> Result<OwnedItem, StreamError>
     requires is_line { IsLine line.now }
     requires not_blank { IsFalse (is_blank line.now) }
-    ensures { (number : ℕ) → ItemsFrom number line.now (numbered number (shown_item result) ∷ []) }
+    ensures { IfOk result (λ item. (shown : Item) × ShowsOwned item shown
+        × ((number : ℕ) → ItemsFrom number line.now (numbered number shown ∷ []))) }
 {
     match read_line(line) {
         Line::Blank => unreachable!(),
-        Line::Put { name: _, size: _ } => Item::Truncated,
-        Line::BadPut => Item::BadPut,
-        Line::Other(item) => item,
+        Line::Put { name: _, size: _ } => Ok(OwnedItem::Truncated),
+        Line::BadPut => Ok(OwnedItem::BadPut),
+        Line::Other(item) => OwnedItem::of(alloc, item),
     }
 }
 
 /// An item, and the number of the line after it: `None` if the reading ends with the item.
 #[derive(Debug, Drop)]
-struct Step<'t> {
-    item: StreamItem<'t>,
+struct Step {
+    item: OwnedItem,
     next: Option<u32>,
 }
 
 /// The item of a line that a line feed closed, with a put's bytes.
-fn take_item<'t, I: BufRead>(
+fn take_item<I: BufRead>(
     alloc: Global,
     input: &mut I,
     number: u32,
-    line: &'t [u8],
-) -> Result<Step<'t>, StreamError>
+    line: &[u8],
+) -> Result<Step, StreamError>
     requires is_line { IsLine line.now }
     requires not_blank { IsFalse (is_blank line.now) }
     ensures { (bytes : List ℕ) × Consumes (I.remaining input.old) (I.remaining input.new) bytes
@@ -160,17 +156,20 @@ fn take_item<'t, I: BufRead>(
         Line::Blank => unreachable!(),
         Line::Put { name, size } => take_put(alloc, input, number, name, size),
         Line::BadPut => Ok(Step {
-            item: StreamItem::Other(Item::BadPut),
+            item: OwnedItem::BadPut,
             next: None,
         }),
-        Line::Other(item) => go_on_after(StreamItem::Other(item), number, 1),
+        Line::Other(item) => match OwnedItem::of(alloc, item) {
+            Ok(item) => go_on_after(item, number, 1),
+            Err(error) => Err(error),
+        },
     }
 }
 
 /// The step of an item that is followed by a line whose number is greater by `lines`. `TooManyLines` means that this
 /// number would not fit in 32 bits.
-fn go_on_after(item: StreamItem<'_>, number: u32, lines: usize) -> Result<Step<'_>, StreamError>
-    ensures { IfOk result (λ step. (step.item ≡ item.entry) × (step.next ≡ Some (number + lines)) × (number + lines < 2 ^ 32)) }
+fn go_on_after(item: OwnedItem, number: u32, lines: usize) -> Result<Step, StreamError>
+    ensures { IfOk result (λ step. (step.item ≡ item) × (step.next ≡ Some (number + lines)) × (number + lines < 2 ^ 32)) }
 {
     match number_after(number, lines) {
         Some(next) => Ok(Step {
@@ -191,42 +190,51 @@ fn number_after(number: u32, lines: usize) -> Option<u32>
 }
 
 /// Takes the bytes of a put and the byte after them.
-fn take_put<'t, I: BufRead>(
+fn take_put<I: BufRead>(
     alloc: Global,
     input: &mut I,
     number: u32,
-    name: &'t [u8],
+    name: &[u8],
     size: usize,
-) -> Result<Step<'t>, StreamError>
+) -> Result<Step, StreamError>
     ensures { (bytes : List ℕ) × Consumes (I.remaining input.old) (I.remaining input.new) bytes
         × ((line : List ℕ) → IsPutLine line name.now size → TakesItem number line result bytes (I.remaining input.old) (I.remaining input.new)) }
 {
     let put = take_bytes(alloc, input, size)?;
     if put.passed.count < size {
         return Ok(Step {
-            item: StreamItem::Other(Item::Truncated),
+            item: OwnedItem::Truncated,
             next: None,
         });
     }
-    let lines = put.passed.line_feeds.saturating_add(2);
-    let item = put_item(name, put.body);
     let closing = close(input)?;
     match closing {
-        Closing::LineFeed => go_on_after(item, number, lines),
-        Closing::InputEnd => Ok(Step { item, next: None }),
+        Closing::LineFeed => {
+            let lines = put.passed.line_feeds.saturating_add(2);
+            match put_item(alloc, name, put.body) {
+                Ok(item) => go_on_after(item, number, lines),
+                Err(error) => Err(error),
+            }
+        }
+        Closing::InputEnd => match put_item(alloc, name, put.body) {
+            Ok(item) => Ok(Step { item, next: None }),
+            Err(error) => Err(error),
+        },
         Closing::OtherByte => Ok(Step {
-            item: StreamItem::Other(Item::BodyNotClosed),
+            item: OwnedItem::BodyNotClosed,
             next: None,
         }),
     }
 }
 
-fn put_item(name: &[u8], body: PutBody) -> StreamItem<'_>
-    ensures { (size : ℕ) (bytes : List ℕ) → Holds body size bytes → length bytes ≡ size → Shows result (put name.now bytes) }
+/// A put of this name. `OutOfMemory` if there is no memory for the name.
+fn put_item(alloc: Global, name: &[u8], body: PutBody) -> Result<OwnedItem, StreamError>
+    ensures { IfOk result (λ item. (size : ℕ) (bytes : List ℕ) → Holds body size bytes → length bytes ≡ size → ShowsOwned item (put name.now bytes)) }
 {
+    let name = copy_of(alloc, name)?;
     match body {
-        PutBody::Kept(body) => StreamItem::Put { name, body },
-        PutBody::Long => StreamItem::LongPut { name },
-        PutBody::Lost => StreamItem::LostPut { name },
+        PutBody::Kept(body) => Ok(OwnedItem::Put { name, body }),
+        PutBody::Long => Ok(OwnedItem::LongPut { name }),
+        PutBody::Lost => Ok(OwnedItem::LostPut { name }),
     }
 }

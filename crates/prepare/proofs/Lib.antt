@@ -2,3 +2,4 @@ mod AnchoredLemmas
 pub mod TestLemmas
 mod FrontLemmas
 mod RequestLemmas
+mod ShownLemmas

@@ -1,12 +1,12 @@
 -- What the options of a search ask for.
-use Rattle.std.proofs.Common.{◌≡◌, ℕ, suc, ◌+◌, ◌<◌, ◌≤◌, Bool, true, false, List, [], ◌∷◌, ◌++◌, map, length, take, get_or, Some, sym, ◌∙◌, ap, subst, arith}
-use Rattle.std.specs.Prelude.{◌||◌, slice_get, option_map}
+use Rattle.std.proofs.Common.{◌≡◌, ℕ, suc, ◌+◌, ◌<◌, ◌≤◌, Bool, true, false, not, List, [], ◌∷◌, ◌++◌, map, length, take, get_or, Some, None, refl, sym, ◌∙◌, ap, subst, arith}
+use Rattle.std.specs.Prelude.{◌||◌, ◌&&◌, if◌then◌else◌, slice_get, option_map}
 use Rattle.std.proofs.Math.Seq.{take-suc}
 use Rattle.std.proofs.lemmas.List.{length-map, take_all}
 use Rattle.std.proofs.lemmas.Option.{slice_get_within, get_or_from_slice_get, slice_get-get_or, slice_get-map}
 use Rattle.std.proofs.lemmas.List.Elements.{All-nil, All-cons}
 use Rattle.ere.specs.Limits.{IsTreeOf, IsWithinLimits}
-use Rattle.ere.specs.Edges.{IsSizeFault, too_deep, too_large}
+use Rattle.ere.specs.Edges.{IsSizeFault, line_tree, too_deep, too_large, word_tree}
 use Rattle.ere.specs.Literal.{IsPatternText, NamesTextFault}
 use Rattle.ere.specs.Spelling.{Spells}
 use Rattle.ere.specs.Tree.{Tree}
@@ -22,9 +22,10 @@ use Rattle.request.specs.declared.options.NameTest as program
 use Rattle.trigram.specs.Analysis.{condition}
 use Rattle.prepare.specs.Tests.{test_of}
 use Rattle.prepare.specs.declared.asked.Test.{Test as PreparedTest}
+use Rattle.prepare.specs.Prepared.{inside}
 use Rattle.prepare.specs.Queries.{IsQueryOf}
 use Rattle.prepare.specs.Pattern.{IsTreeFault, Test}
-use Rattle.prepare.specs.Request.{AreTestsOf, asked_tree, HaveTrees, IsPatternFault, IsReadAs, IsRequestFault, IsTestOf}
+use Rattle.prepare.specs.Request.{AreTestsOf, asked_tree, asks_for_words, HaveTrees, IsPatternFault, IsReadAs, IsRequestFault, IsTestOf}
 
 -- a text spells at most one tree
 abbrev pub OneTree : Type 0
@@ -63,6 +64,23 @@ edged_fault law options text own fault allowed read over = record {
       λ tree other.
       subst (λ t. IsSizeFault (asked_tree options t) fault) (read_once law options.literal options.case text own tree read other) over;
 }
+
+-- ---- whole words
+
+-- the tree that whole words are words of is that between their edges
+pub word_inside : (options : Options) (words : Bool) (line tree : Tree) → words ≡ asks_for_words options → line ≡ asked_tree options tree
+    → (if words then Some (inside line) else None) ≡ (if asks_for_words options then Some tree else None)
+word_inside options words line tree same is =
+    ap (λ b. if b then Some (inside line) else None) same
+    ∙ (ap (λ t. if asks_for_words options then Some (inside t) else None) is ∙ go options.whole_words options.whole_lines)
+  where
+    go : (whole_words whole_lines : Bool)
+        → (if whole_words && not whole_lines then Some (inside (if whole_lines then line_tree tree else (if whole_words then word_tree tree else tree))) else None)
+        ≡ (if whole_words && not whole_lines then Some tree else None)
+    go true true = refl
+    go true false = refl
+    go false true = refl
+    go false false = refl
 
 -- ---- conditions
 

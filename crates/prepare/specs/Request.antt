@@ -1,5 +1,5 @@
 -- What a search asks for: a pattern, and what is shown of the lines that it finds.
-use Rattle.std.specs.Prelude.{◌≡◌, ◌≢◌, ℕ, zero, suc, ◌<◌, ◌&&◌, Bool, not, false, List, [], ◌∷◌, Option, Some, None, if◌then◌else◌, take}
+use Rattle.std.specs.Prelude.{◌≡◌, ℕ, zero, suc, ◌&&◌, Bool, not, false, List, [], ◌∷◌, Option, Some, None, if◌then◌else◌, take}
 use Rattle.std.specs.Prelude.{MatchBool, slice_get}
 use Rattle.std.specs.List.{All}
 use Rattle.ere.specs.Edges.{line_tree, word_tree, IsSizeFault}

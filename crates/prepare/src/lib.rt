@@ -7,6 +7,7 @@ mod asked;
 mod front;
 mod pattern;
 mod requested;
+mod shown;
 
 pub use anchored::anchored_text;
 pub use asked::Test;

@@ -27,8 +27,8 @@ pub struct Prepared {
     pub names: Vec<Test>,
     /// The condition of the test of lines: the trigrams of every document with a hit meet it.
     pub query: Query,
-    /// If only whole words count, the test of lines without the edges of words.
-    pub word: Option<Test>,
+    /// Whether only whole words count. The tree of the test of lines then has the edges of words.
+    pub words: bool,
     /// What is shown of the lines.
     pub view: View,
     /// The most lines, or names, that are shown.
@@ -144,7 +144,7 @@ impl Prepared {
             line,
             names,
             query,
-            word: None,
+            words: false,
             view: View::Lines,
             limit: None,
             zero: false,

@@ -1,6 +1,6 @@
 //! Searches with options.
 
-ghost use Rattle.std.specs.Prelude.{◌≡◌, ◌≢◌, ◌++◌, ◌∷◌, [], ℕ, List, Some, None, if◌then◌else◌, IfOk, IfErr, OnOk, map, option_map};
+ghost use Rattle.std.specs.Prelude.{◌≡◌, ◌≢◌, ◌++◌, ◌∷◌, [], ℕ, List, IfOk, IfErr, OnOk, map};
 ghost use Rattle.ere.specs.Edges.{IsSizeFault};
 ghost use Rattle.ere.specs.Limits.{IsWithinLimits};
 ghost use Rattle.ere.specs.Literal.{IsPatternText, NamesTextFault};
@@ -27,17 +27,6 @@ pub struct FindError {
     pub error: EreError,
 }
 
-/// What the options ask of lines.
-#[derive(Drop)]
-struct Asked {
-    /// The test of lines.
-    line: Test,
-    /// The condition of that test.
-    query: Query,
-    /// If only whole words count, the test without the edges of words.
-    word: Option<Test>,
-}
-
 impl Prepared {
     ghost use Rattle.std.specs.Prelude.{◌≢◌, IfOk, IfErr};
     ghost use Rattle.request.specs.Shown.{shown_options};
@@ -57,11 +46,11 @@ impl Prepared {
         let options = &find.options;
         let names = tests_of(alloc, options)?;
         match asked_of(alloc, options, find.pattern) {
-            Ok(asked) => Ok(Prepared {
-                line: asked.line,
+            Ok((line, query)) => Ok(Prepared {
+                line,
                 names,
-                query: asked.query,
-                word: asked.word,
+                query,
+                words: asks_for_words(options),
                 view: options.view,
                 limit: options.limit,
                 zero: options.zero,
@@ -108,12 +97,15 @@ fn add_test(
     Ok(())
 }
 
-/// What the options ask of lines, with the pattern of this text.
-fn asked_of(alloc: Global, options: &FindOptions<'_>, text: &[u8]) -> Result<Asked, EreError>
+/// The test of lines that the options ask for with the pattern of this text, and the query of its condition.
+fn asked_of(
+    alloc: Global,
+    options: &FindOptions<'_>,
+    text: &[u8],
+) -> Result<(Test, Query), EreError>
     ensures asked { IfOk result (λ asked. (tree : Tree) × IsTreeFor (shown_options options.now) text.now tree
-        × (test_of asked.line ≡ record { tree = asked_tree (shown_options options.now) tree; inverted = options.now.invert })
-        × (option_map (λ test. form test.tree) asked.word ≡ if asks_for_words (shown_options options.now) then Some tree else None)) }
-    ensures query { IfOk result (λ asked. IsQueryOf (test_of asked.line) asked.query) }
+        × (test_of asked.0 ≡ record { tree = asked_tree (shown_options options.now) tree; inverted = options.now.invert })) }
+    ensures query { IfOk result (λ asked. IsQueryOf (test_of asked.0) asked.1) }
     ensures refused { IfErr result (λ e. e.kind ≢ EreErrorKind.OutOfMemory → IsPatternFault (shown_options options.now) text.now e) }
 {
     let tree = line_tree_of(alloc, options, text)?;
@@ -121,9 +113,8 @@ fn asked_of(alloc: Global, options: &FindOptions<'_>, text: &[u8]) -> Result<Ask
         tree,
         inverted: options.invert,
     };
-    let word = word_of(alloc, options, text)?;
     let query = query_of(alloc, &line)?;
-    Ok(Asked { line, query, word })
+    Ok((line, query))
 }
 
 /// The tree of the test of lines.
@@ -136,24 +127,6 @@ fn line_tree_of(alloc: Global, options: &FindOptions<'_>, text: &[u8]) -> Result
     let tree = read_tree(alloc, options, text)?;
     one_tree();
     edged(alloc, options, tree)
-}
-
-/// If only whole words count, the test of the words. The text is read for it once more.
-fn word_of(alloc: Global, options: &FindOptions<'_>, text: &[u8]) -> Result<Option<Test>, EreError>
-    ensures word { IfOk result (λ word. (tree : Tree) → IsReadAs options.now.literal options.now.case text.now tree →
-        option_map (λ test. form test.tree) word ≡ if asks_for_words (shown_options options.now) then Some tree else None) }
-    ensures refused { IfErr result (λ e. e.kind ≢ EreErrorKind.OutOfMemory →
-        (tree : Tree) → IsReadAs options.now.literal options.now.case text.now tree → ⊥) }
-{
-    if asks_for_words(options) {
-        let tree = read_tree(alloc, options, text)?;
-        one_tree();
-        return Ok(Some(Test {
-            tree,
-            inverted: false,
-        }));
-    }
-    Ok(None)
 }
 
 /// Whether only whole words count.

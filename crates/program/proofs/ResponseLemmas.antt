@@ -1,5 +1,5 @@
 -- Responses, and what keeps the program from one.
-use Rattle.std.proofs.Common.{◌≡◌, List, [], ℕ, Option, true, false}
+use Rattle.std.proofs.Common.{◌≡◌, List, ℕ, Option, true, false}
 use Rattle.std.specs.Prelude.{Result, Ok, Err, IfOk, IfErr, OnErr}
 use Rattle.std.specs.Io.KnownBytes.{Appends}
 use Rattle.cli.specs.CommandLine.{AreRefused, AskForHelp, AskForVersion, SpellSettings}

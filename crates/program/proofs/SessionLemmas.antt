@@ -5,8 +5,8 @@ use Rattle.std.specs.Io.KnownBytes.{prepend_known}
 use Rattle.std.specs.declared.io.buffered.BufReader.{BufReader}
 use Rattle.std.specs.Prelude.{Result, Ok, Err, IfErr}
 use Rattle.cli.specs.declared.arguments.Settings.{Settings}
-use Rattle.live.specs.Served.{IsBroken, IsServed}
-use Rattle.live.specs.declared.serving.LiveOptions.{LiveOptions}
+use Rattle.tsearch.specs.Served.{IsBroken, IsServed}
+use Rattle.tsearch.specs.declared.serving.LiveOptions.{LiveOptions}
 use Rattle.program.specs.Reads.{IsInputFrom, IsLoadFrom}
 use Rattle.program.specs.Response.{EndsOver, EndsSession, IsFaultOfSession, live_options_of, broken, ended}
 use Rattle.program.specs.declared.error.ProgramError.{ProgramError}

@@ -3,7 +3,7 @@ use Rattle.std.specs.Prelude.{◌≡◌, ◌+◌, ℕ, List, take, Option, Some,
 use Rattle.std.specs.Borrow.{Bor}
 use Rattle.std.specs.Str.{IsUtf8}
 use Rattle.index.specs.declared.body.TheConstants.{MAX_BODY}
-use Rattle.script.specs.declared.reader.TheConstants.{MAX_SCRIPT}
+use Rattle.script.specs.declared.line.TheConstants.{MAX_SCRIPT}
 
 -- The bytes are those of the file at the path, or the first `most` of them. If the bytes of the file are not known, nothing
 -- more is said. `opens path all`: the file at the path has these bytes in all, or they are not known.

@@ -1,12 +1,12 @@
 -- What the program does in response to its arguments.
-use Rattle.std.specs.Prelude.{◌≡◌, ◌⊎◌, ℕ, List, [], Option, true, false, ⊤}
+use Rattle.std.specs.Prelude.{◌≡◌, ℕ, List, [], Option, true, false, ⊤}
 use Rattle.std.specs.Io.KnownBytes.{Appends}
 use Rattle.cli.specs.CommandLine.{AskForHelp, AskForVersion, IsRefusalOf, SpellSettings}
 use Rattle.cli.specs.declared.arguments.Settings.{Settings}
 use Rattle.cli.specs.declared.error.ArgumentError.{ArgumentError}
 use Rattle.cli.specs.declared.help.TheConstants.{HELP, VERSION}
-use Rattle.live.specs.Served.{IsBroken, IsServed}
-use Rattle.live.specs.declared.serving.LiveOptions.{LiveOptions}
+use Rattle.tsearch.specs.Served.{IsBroken, IsServed}
+use Rattle.tsearch.specs.declared.serving.LiveOptions.{LiveOptions}
 use Rattle.tsearch.specs.Legal.{IsLegal}
 use Rattle.transcript.specs.Transcript.{status_of, text_of_transcript}
 use Rattle.transcript.specs.Written.{AppendsFront}

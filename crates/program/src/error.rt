@@ -1,9 +1,8 @@
 //! Why the program has no response.
 
 use cli::ArgumentError;
-use live::LiveError;
 use thiserror::Error;
-use tsearch::RunError;
+use tsearch::{LiveError, RunError};
 
 /// Why the program ends before its response is written whole. Its text is for standard error.
 #[derive(Debug, Drop, Error)]

@@ -2,7 +2,7 @@
 
 ghost use Rattle.std.specs.Prelude.{ℕ, List, Option, IfOk, IfErr};
 ghost use Rattle.cli.specs.CommandLine.{IsInLimits};
-ghost use Rattle.live.specs.Served.{IsServed};
+ghost use Rattle.tsearch.specs.Served.{IsServed};
 ghost use Rattle.program.specs.Response.{EndsOver, EndsSession, IsFaultOfSession, IsSessionOf, live_options_of};
 ghost use Rattle.program.specs.Reads.{IsLoadFrom};
 
@@ -12,12 +12,12 @@ use crate::files::FileSource;
 use crate::read::{Noted, fault_of_script};
 use crate::response::Open;
 use cli::Settings;
-use live::{LiveError, LiveOptions, serve};
 use std::alloc::Global;
 use std::io::{self, BufReader, Read, Write};
 use std::sync::Wait;
 use std::thread::Threads;
 use std::time::Clock;
+use tsearch::{LiveError, LiveOptions, serve};
 
 /// Input is read in parts of at most this many bytes.
 const INPUT_BUFFER: usize = 65536;

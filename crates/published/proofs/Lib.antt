@@ -4,3 +4,4 @@ pub mod NameLemmas
 pub mod DocumentNames
 pub mod ShelfLemmas
 pub mod DeskLemmas
+pub mod CopiesLemmas

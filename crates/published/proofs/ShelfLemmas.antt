@@ -1,6 +1,5 @@
 -- A shelf after some operations.
-use Rattle.std.proofs.Common.{◌≡◌, ℕ, List, [], ◌∷◌, ◌++◌, Option, fold, refl, sym, ap, subst, ◌∙◌, append_assoc}
-use Rattle.left_right.specs.Register.{TurnsAt}
+use Rattle.std.proofs.Common.{◌≡◌, List, [], ◌∷◌, ◌++◌, fold, refl, sym, ap, ◌∙◌, append_assoc}
 use Rattle.std.proofs.lemmas.List.{append-nil}
 use Rattle.std.proofs.lemmas.Grind.{fold-append}
 use Rattle.index.specs.declared.command.Command.{Command}
@@ -12,9 +11,8 @@ use Rattle.published.specs.declared.shelf.Operation.{Operation}
 use Rattle.published.specs.declared.shelf.Operation.TheVariants.{Change, Stamp}
 use Rattle.published.specs.declared.shelf.Shelf.{Shelf}
 use Rattle.published.specs.Private.Shelf.{command_of, operated, commands_in}
-use Rattle.published.specs.Private.Rule.{IsExact, IsKept, Meets}
-use Rattle.published.specs.Private.DeskParts.{accepted_of}
-use Rattle.published.proofs.Turns.{turns_at}
+use Rattle.published.specs.Private.Rule.{IsExact}
+use Rattle.published.specs.Private.Copies.{accepted_of}
 
 abbrev after : State → List Command → State
 after s commands = fold (λ (x : State) (c : Command). applied c x) s commands
@@ -59,13 +57,3 @@ module _ (shown next : Shelf) (pending : List Operation) (front : Known) (is : n
       let state : state_of next.front.commands ≡ after (state_of shown.front.commands) (commands_in pending) =
       ap (λ f. state_of f.commands) next_front ∙ (ap state_of all ∙ state_of-more shown.front.commands (commands_in pending)) in
       index ∙ (ap (λ s. after s (commands_in pending)) exact ∙ sym state)
-
--- a step of no operations
-pub nothing_done : (shown next : Shelf) (pending : List Operation) → pending ≡ [] → next ≡ fold operated shown pending → next ≡ shown
-nothing_done shown next pending none is = is ∙ ap (fold operated shown) none
-
-pub nothing_turns : (seat : ℕ) (met : Option Known) (shown next : Shelf) (pending : List Operation) → pending ≡ []
-    → next ≡ fold operated shown pending → TurnsAt IsKept seat met shown next Meets
-nothing_turns seat met shown next pending none is =
-    let same = nothing_done shown next pending none is in
-    turns_at seat met shown next (ap (λ s. s.front.opening) same) (subst IsExact (sym same))

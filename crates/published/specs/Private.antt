@@ -2,4 +2,5 @@ pub mod Batches
 pub mod Names
 pub mod Shelf
 pub mod Rule
+pub mod Copies
 pub mod DeskParts

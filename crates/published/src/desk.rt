@@ -1,26 +1,21 @@
 //! The desk: it accepts commands, and publishes them.
 
-ghost use Rattle.std.specs.Prelude.{◌≡◌, ℕ, ◌≤◌, List, Bool, [], ◌∷◌, ◌++◌, length, drop, fold};
-ghost use Rattle.std.specs.Prelude.{false, true, IfSome, IfOk, IfErr, OnOk, OnErr, MatchResult, MatchBool};
-ghost use Rattle.left_right.specs.Register.{TurnsAt};
-ghost use Rattle.left_right.specs.Sides.{view};
+ghost use Rattle.std.specs.Prelude.{◌≡◌, ℕ, ◌≤◌, List, [], length, true, false, IfSome, IfOk, IfErr, OnOk, OnErr, MatchBool};
 ghost use Rattle.index.specs.declared.command.Command.TheVariants.{Put as put_command, Remove as remove_command};
 ghost use Rattle.published.specs.History.{known};
 ghost use Rattle.history.specs.History.{head_of};
 ghost use Rattle.published.specs.Private.Names.{has_name};
-ghost use Rattle.published.specs.Private.Shelf.{command_of, operated};
-ghost use Rattle.published.specs.Private.Rule.{IsKept, Meets};
-ghost use Rattle.published.specs.Private.DeskParts.{accepted_of, Begins, HasNamesOf};
+ghost use Rattle.published.specs.Private.Copies.{copies_state};
+ghost use Rattle.published.specs.Private.DeskParts.{Begins, HasNamesOf};
 ghost use Rattle.published.specs.declared.opening.TheConstants.{MAX_COMMANDS};
 ghost use Rattle.published.specs.Desk.{desk_state, with_command, all_published, IsFull, HasRoom, has_document, returned_bytes, IsPutFault, IsRemoveFault};
 
 use crate::batches::{Batch, Front, Head};
+use crate::copies::Copies;
 use crate::error::{PutError, PutErrorKind, RemoveError, Returned};
 use crate::names::Names;
-use crate::rule::{Meet, ShelfWriter};
-use crate::shelf::{Operation, Shelf, Update};
+use crate::shelf::Update;
 use crate::told::Told;
-use core::mem::replace_with;
 use index::{Body, Held, Name};
 use logbook::Plain;
 use std::alloc::AllocError;
@@ -32,7 +27,7 @@ use std::sync::Wait;
 /// Contracts see it as its opening, the greatest number of commands, and the lists of the published and of
 /// the accepted commands. End it with `close`.
 pub struct Desk {
-    writer: ShelfWriter,
+    copies: Copies,
     head: Head,
     /// The end of the history, as far as the desk knows it. After a refused publish it can be
     /// ahead of what is published.
@@ -42,104 +37,53 @@ pub struct Desk {
     /// The number of accepted commands.
     accepted: u32,
     limit: u32,
-    ghost opening: { writer.desk.shown.value.front.opening ≡ front.opening },
+    ghost opening: { copies.shown.opening ≡ front.opening },
     ghost history: { head ≡ head_of front.opening },
-    ghost begins: { Begins front.commands (accepted_of writer.desk.shown.value (drop writer.behind writer.log.items)) },
-    ghost counted: { accepted ≡ length (accepted_of writer.desk.shown.value (drop writer.behind writer.log.items)) },
+    ghost begins: { Begins front.commands copies.accepted },
+    ghost counted: { accepted ≡ length copies.accepted },
     ghost room: { accepted ≤ limit },
     ghost limited: { limit ≤ MAX_COMMANDS },
-    ghost named: { HasNamesOf names (accepted_of writer.desk.shown.value (drop writer.behind writer.log.items)) },
+    ghost named: { HasNamesOf names copies.accepted },
 }
 
 impl Model for Desk {
-    ghost use Rattle.std.specs.Prelude.{drop};
     ghost use Rattle.published.specs.Desk.{DeskState, desk_state};
-    ghost use Rattle.published.specs.Private.DeskParts.{accepted_of};
 
     ghost Value = { DeskState };
 
-    ghost view = { λ d. desk_state d.front.opening d.limit d.writer.desk.shown.value.front.commands
-        (accepted_of d.writer.desk.shown.value (drop d.writer.behind d.writer.log.items)) };
+    ghost view = { λ d. desk_state d.front.opening d.limit d.copies.shown.commands d.copies.accepted };
 }
 
 /// What a publish adds to the history.
 #[derive(Clone, Copy)]
 struct Unwritten<'a> {
-    writer: &'a ShelfWriter,
+    copies: &'a Copies,
     front: &'a Front,
 }
 
 struct Lacks;
 
 impl Plain<Unwritten<'_>, Batch, u64> for Lacks {
-    ghost use Rattle.std.specs.Prelude.{drop, None};
+    ghost use Rattle.std.specs.Prelude.{None};
     ghost use Rattle.published.specs.Private.DeskParts.{lacking};
 
-    ghost ask = { λ u. lacking u.front.now u.writer.now.desk.shown.value (drop u.writer.now.behind u.writer.now.log.items) };
+    ghost ask = { λ u. lacking u.front.now u.copies.now };
 
     ghost state = { λ u. None };
 }
 
-/// Adds an operation to those that the next exchange of the copies carries out.
-fn append(writer: &mut ShelfWriter, operation: Operation) -> Result<(), AllocError>
-    ensures desk { writer.new.desk ≡ writer.old.desk }
-    ensures ok { OnOk result (drop writer.new.behind writer.new.log.items ≡ drop writer.old.behind writer.old.log.items ++ operation ∷ []) }
-    ensures err { OnErr result (drop writer.new.behind writer.new.log.items ≡ drop writer.old.behind writer.old.log.items) }
-{
-    match writer.append(operation) {
-        Ok(()) => Ok(()),
-        Err(_) => Err(AllocError),
-    }
-}
-
-/// Carries out the operations that wait, and exchanges the copies: then the shelf that readings see has all accepted
-/// commands, which are those of this front. An `Err` means that memory ran out; what readings see stays as it is.
-fn exchange_copies<R: Wait>(
-    writer: &mut ShelfWriter,
-    rt: &R,
-    front: &Front,
-) -> Result<(), AllocError>
-    requires opening { front.now.opening ≡ writer.old.desk.shown.value.front.opening }
-    requires all { front.now.commands ≡ accepted_of writer.old.desk.shown.value (drop writer.old.behind writer.old.log.items) }
-    ensures ok { OnOk result ((writer.new.desk.shown.value.front ≡ front.now) × (drop writer.new.behind writer.new.log.items ≡ [])) }
-    ensures shown { OnErr result (writer.new.desk.shown.value ≡ writer.old.desk.shown.value) }
-    ensures accepted { OnErr result (accepted_of writer.new.desk.shown.value (drop writer.new.behind writer.new.log.items)
-        ≡ accepted_of writer.old.desk.shown.value (drop writer.old.behind writer.old.log.items)) }
-{
-    append(writer, Operation::Stamp(front.again()))?;
-    replace_with(
-        writer,
-        rt,
-        |writer: ShelfWriter, rt: &R| -> (ShelfWriter, Result<(), AllocError>)
-            requires { (next : Shelf) → next ≡ fold operated writer.desk.shown.value (drop writer.behind writer.log.items)
-                → TurnsAt IsKept writer.desk.place.id (view writer.desk.place) writer.desk.shown.value next Meets }
-            ensures { MatchResult result.1
-                (λ _. (result.0.desk.shown.value ≡ fold operated writer.desk.shown.value (drop writer.behind writer.log.items))
-                × (drop result.0.behind result.0.log.items ≡ []))
-                (λ _. (result.0.desk.shown.value ≡ writer.desk.shown.value)
-                × (drop result.0.behind result.0.log.items ≡ drop writer.behind writer.log.items)) }
-        { writer.publish_as::<Meet, R>(rt) },
-    )
-}
-
 impl Desk {
     /// A desk that has accepted nothing.
-    pub(crate) fn over(
-        writer: ShelfWriter,
-        head: Head,
-        front: Front,
-        names: Names,
-        limit: u32,
-    ) -> Desk
-        requires front { writer.desk.shown.value.front ≡ front }
+    pub(crate) fn over(copies: Copies, head: Head, front: Front, names: Names, limit: u32) -> Desk
+        requires copies { copies ≡ copies_state front [] }
         requires head { head ≡ head_of front.opening }
-        requires empty { (front.commands ≡ []) × (drop writer.behind writer.log.items ≡ []) }
+        requires empty { front.commands ≡ [] }
         requires names { (name : List ℕ) → has_name names name ≡ false }
         requires limit { limit ≤ MAX_COMMANDS }
         ensures { result ≡ desk_state front.opening limit [] [] }
     {
         Desk {
-            writer,
+            copies,
             head,
             front,
             names,
@@ -214,7 +158,7 @@ impl Desk {
         let shared = held.share()?;
         let added = self.names.add(name)?;
         let update = Update::Put(own, shared);
-        match append(&mut self.writer, Operation::Change(update)) {
+        match self.copies.accept(update) {
             Ok(()) => {
                 self.accepted += 1;
                 Ok(())
@@ -254,7 +198,7 @@ impl Desk {
         ensures err { OnErr result (self.new ≡ self.old) }
     {
         let own = name.share()?;
-        append(&mut self.writer, Operation::Change(Update::Remove(own)))?;
+        self.copies.accept(Update::Remove(own))?;
         self.names.remove(name);
         self.accepted += 1;
         Ok(())
@@ -275,7 +219,7 @@ impl Desk {
             front: front.again(),
         };
         self.front = front;
-        exchange_copies(&mut self.writer, rt, &self.front)?;
+        self.copies.publish(rt, &self.front)?;
         Ok(told)
     }
 
@@ -288,24 +232,38 @@ impl Desk {
             return Some(self.front.again());
         }
         let unwritten = Unwritten {
-            writer: &self.writer,
+            copies: &self.copies,
             front: &self.front,
         };
         self.front
             .with::<Unwritten<'_>, Lacks>(&self.head, &unwritten, self.accepted)
     }
 
+    /// Brings the copy of the index that no reading sees further up to date, ahead of the next publish, which then has less to
+    /// do. It carries out on it some of the commands that it lacks: first those that are published, then those that are only
+    /// accepted, until the bodies that they bring and take away have about `most` bytes. If `most` is not 0 and anything is
+    /// lacking, it is at least one command. Returns whether more is left; if memory ran out for a command, `false`: that one
+    /// and those after it are left to a later call or publish.
+    ///
+    /// If anything is lacking, the first call after a publish waits for readings that are taking what a search needs, as a
+    /// publish does; the calls after it do not wait.
+    pub fn catch_up<R: Wait>(&mut self, rt: &R, most: usize) -> bool
+        ensures { self.new ≡ self.old }
+    {
+        self.copies.catch_up(rt, most)
+    }
+
     /// Ends the desk. It waits for readings that are taking what a search needs; afterwards every search is refused
     /// with `NoEntry`. Commands that are not published are dropped.
     pub fn close<R: Wait>(self, rt: &R) {
         let Desk {
-            writer,
+            copies,
             head: _,
             front: _,
             names: _,
             accepted: _,
             limit: _,
         } = self;
-        writer.take(rt);
+        copies.close(rt);
     }
 }

@@ -6,10 +6,12 @@
 #![tactic(auto)]
 
 mod batches;
+mod copies;
 mod counts;
 mod desk;
 mod error;
 mod laws;
+mod log;
 mod names;
 mod opening;
 mod reading;

@@ -1,17 +1,18 @@
 //! Openings.
 
-ghost use Rattle.std.specs.Prelude.{◌≡◌, ℕ, List, ◌<◌, ◌≤◌, [], Some, All, IfOk, length, drop};
+ghost use Rattle.std.specs.Prelude.{◌≡◌, ◌<◌, ◌≤◌, [], Some, All, IfOk, length};
 ghost use Rattle.left_right.specs.Sides.{view};
 ghost use Rattle.published.specs.History.{known};
-ghost use Rattle.history.specs.History.{head_of};
+ghost use Rattle.index.specs.State.{state_of};
 ghost use Rattle.published.specs.Desk.{desk_state};
 
-use crate::batches::{Front, Head};
+use crate::batches::Front;
+use crate::copies::Copies;
 use crate::desk::Desk;
 use crate::error::OpenError;
 use crate::names::Names;
 use crate::reading::Reading;
-use crate::rule::{Meet, ShelfWriter};
+use crate::rule::{Both, Meet};
 use crate::shelf::Shelf;
 use index::Index;
 use std::alloc::{AllocError, Global};
@@ -61,58 +62,62 @@ pub fn open_with_places<R: Wait>(
     ensures readings { IfOk result (λ opened. All (λ reading. reading ≡ known opened.0.opening []) opened.1.items) }
 {
     let (head, front) = Front::open();
-    let writer = shelves(alloc, &front, places)?;
-    let (mut writer, met) = writer.publish_as::<Meet, R>(rt);
-    let readings = match met {
-        Ok(()) => readings(alloc, &mut writer, &front, readers),
-        Err(error) => Err(OpenError::from(error)),
-    };
-    match readings {
+    let mut both = shelves(rt, alloc, &front, places)?;
+    match readings(alloc, &mut both, &front, readers) {
         Ok(readings) => {
-            let desk = Desk::over(writer, head, front, Names::new(alloc), max_commands);
+            let copies = Copies::over(alloc, both);
+            let desk = Desk::over(copies, head, front, Names::new(alloc), max_commands);
             Ok((desk, readings))
         }
         Err(error) => {
-            writer.take(rt);
+            both.take(rt);
             Err(error)
         }
     }
 }
 
-/// Two copies of an index with no commands, with this number of places for readings.
-fn shelves(alloc: Global, front: &Front, places: usize) -> Result<ShelfWriter, AllocError>
+/// Two copies of an index with no commands, with this number of places for readings. The writer has met this front.
+fn shelves<R: Wait>(rt: &R, alloc: Global, front: &Front, places: usize) -> Result<Both, AllocError>
     requires front { front.now.commands ≡ [] }
     requires places { (0 < places) × (places ≤ MAX_READINGS) }
-    ensures front { IfOk result (λ writer. writer.desk.shown.value.front ≡ front.now) }
-    ensures empty { IfOk result (λ writer. drop writer.behind writer.log.items ≡ []) }
+    ensures shown { IfOk result (λ both. both.desk.shown.value.front ≡ front.now) }
+    ensures spare { IfOk result (λ both. both.desk.spare.value ≡ both.desk.shown.value) }
+    ensures met { IfOk result (λ both. view both.desk.place ≡ Some front.now) }
 {
-    let first = Shelf {
+    let mut both = Both::new(alloc, empty(alloc, front), empty(alloc, front), places)?;
+    // The writer meets the front by an exchange. Contracts know both copies only once this one is written anew.
+    let (open, mut spare) = both.desk.open(rt);
+    *spare = empty(alloc, front);
+    both.desk = open.show_as::<Meet>(spare);
+    Ok(both)
+}
+
+/// A shelf with this front and an index with no commands. It takes no memory.
+fn empty(alloc: Global, front: &Front) -> Shelf
+    ensures { (result.index ≡ state_of []) × (result.front ≡ front.now) }
+{
+    Shelf {
         index: Index::new(alloc),
         front: front.again(),
-    };
-    let second = Shelf {
-        index: Index::new(alloc),
-        front: front.again(),
-    };
-    ShelfWriter::new(alloc, first, second, places)
+    }
 }
 
 /// `readers` readings that have seen as much as the writer has met.
 fn readings(
     alloc: Global,
-    writer: &mut ShelfWriter,
+    both: &mut Both,
     front: &Front,
     readers: usize,
 ) -> Result<Vec<Reading>, OpenError>
-    requires { view writer.old.desk.place ≡ Some front.now }
+    requires { view both.old.desk.place ≡ Some front.now }
     ensures count { IfOk result (λ readings. length readings.items ≡ readers) }
     ensures readings { IfOk result (λ readings. All (λ reading. reading ≡ front.now) readings.items) }
-    ensures shown { writer.new.desk.shown ≡ writer.old.desk.shown }
-    ensures log { (writer.new.log ≡ writer.old.log) × (writer.new.behind ≡ writer.old.behind) }
+    ensures shown { both.new.desk.shown ≡ both.old.desk.shown }
+    ensures spare { both.new.desk.spare ≡ both.old.desk.spare }
 {
     let mut readings = Vec::new(alloc);
     for _ in 0..readers {
-        readings.push(Reading::of(writer, front)?)?;
+        readings.push(Reading::of(both, front)?)?;
     }
     Ok(readings)
 }

@@ -12,7 +12,7 @@ ghost use Rattle.published.specs.Private.Rule.{HasMet};
 use crate::batches::Front;
 use crate::counts::Counts;
 use crate::error::OpenError;
-use crate::rule::{Meet, Note, ShelfReader, ShelfWriter};
+use crate::rule::{Both, Meet, Note, ShelfReader};
 use crate::told::Told;
 use core::mem::replace_with;
 use index::Index;
@@ -44,17 +44,17 @@ impl Reading {
     /// A reading that has seen as much as the writer has met.
     ///
     /// An `Err` is `NoPlace`: no place is left for it.
-    pub(crate) fn of(writer: &mut ShelfWriter, front: &Front) -> Result<Reading, OpenError>
-        requires { view writer.old.desk.place ≡ Some front.now }
+    pub(crate) fn of(both: &mut Both, front: &Front) -> Result<Reading, OpenError>
+        requires { view both.old.desk.place ≡ Some front.now }
         ensures reading { IfOk result (λ reading. reading ≡ front.now) }
-        ensures met { view writer.new.desk.place ≡ view writer.old.desk.place }
-        ensures shown { writer.new.desk.shown ≡ writer.old.desk.shown }
-        ensures log { (writer.new.log ≡ writer.old.log) × (writer.new.behind ≡ writer.old.behind) }
+        ensures met { view both.new.desk.place ≡ view both.old.desk.place }
+        ensures shown { both.new.desk.shown ≡ both.old.desk.shown }
+        ensures spare { both.new.desk.spare ≡ both.old.desk.spare }
     {
-        let Ok(mut reader) = writer.factory().reader() else {
+        let Ok(mut reader) = both.factory().reader() else {
             return Err(OpenError::NoPlace);
         };
-        reader.learn::<Note>(writer.tell::<Note>());
+        reader.learn::<Note>(both.desk.tell::<Note>());
         Ok(Reading {
             reader,
             front: front.again(),

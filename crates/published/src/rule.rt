@@ -1,7 +1,7 @@
 //! The rule under which the two copies are read and exchanged.
 
 use crate::batches::Front;
-use crate::shelf::{Operation, Shelf};
+use crate::shelf::Shelf;
 use atomic_table::{Join, Split};
 use crossbeam_utils::rule::{Outcome, Protocol};
 use left_right::reader::Reader;
@@ -49,5 +49,5 @@ impl Join<Option<Front>> for Note {
 /// What a reading reads a shelf with.
 pub(crate) type ShelfReader = Reader<Shelf, Option<Front>, Kept>;
 
-/// What the desk changes both shelves with.
-pub(crate) type ShelfWriter = Writer<Shelf, Operation, Option<Front>, Kept>;
+/// Both shelves, as `left_right`'s writer keeps them. Of the operations that it can keep, it never has any.
+pub(crate) type Both = Writer<Shelf, (), Option<Front>, Kept>;

@@ -3,12 +3,15 @@
 
 ghost use Rattle.std.specs.Prelude.{◌≡◌, ◌+◌, ◌^◌, ◌<◌, OnOk, OnErr, MatchBool};
 ghost use Rattle.index.specs.State.{applied};
-ghost use Rattle.published.specs.Private.Shelf.{command_of, operated};
+ghost use Rattle.published.specs.Private.Shelf.{command_of};
 
 use crate::batches::Front;
 use index::{Held, Index, Name};
 use left_right::Absorb;
 use std::alloc::AllocError;
+
+/// How much work an operation without a body is, in bytes of bodies.
+const LEAST_WORK: usize = 256;
 
 /// A command whose name and body are shared by both copies.
 #[derive(Drop)]
@@ -37,21 +40,59 @@ pub struct Shelf {
     pub front: Front,
 }
 
-impl Absorb<Operation> for Shelf {
-    type State = Shelf;
+/// `left_right`'s own writer only keeps the two copies. What it would carry out on both is nothing: that is left to
+/// `Copies`, in pieces.
+impl Absorb<()> for Shelf {
+    type State = ();
 
+    ghost state = { λ _. tt };
+
+    ghost applied = { λ state _. state };
+
+    fn absorb_first(&mut self, _operation: &(), _other: &Shelf) -> Result<(), AllocError> {
+        Ok(())
+    }
+}
+
+impl Shelf {
     ghost use Rattle.published.specs.Private.Shelf.{operated};
 
-    ghost state = { λ shelf. shelf };
-
-    ghost applied = { operated };
-
-    fn absorb_first(&mut self, operation: &Operation, _other: &Shelf) -> Result<(), AllocError> {
+    /// Carries out the operation. After an `Err`, which means that memory ran out, nothing has changed.
+    pub(crate) fn carry_out(&mut self, operation: &Operation) -> Result<(), AllocError>
+        ensures ok { OnOk result (self.new ≡ operated self.old operation.now) }
+        ensures err { OnErr result (self.new ≡ self.old) }
+    {
         match operation {
             Operation::Change(update) => change(&mut self.index, update)?,
             Operation::Stamp(front) => self.front = front.again(),
         }
         Ok(())
+    }
+
+    /// About how much work the operation is: the bytes of the body that it brings and of the one that it takes away, and
+    /// `LEAST_WORK` more.
+    pub(crate) fn work(&self, operation: &Operation) -> usize {
+        let bytes = match operation {
+            Operation::Change(Update::Put(name, held)) => held
+                .body()
+                .as_bytes()
+                .len()
+                .saturating_add(self.bytes_of(name)),
+            Operation::Change(Update::Remove(name)) => self.bytes_of(name),
+            Operation::Stamp(_) => 0,
+        };
+        bytes.saturating_add(LEAST_WORK)
+    }
+
+    /// The bytes of the body of the document with this name; 0 if there is none.
+    fn bytes_of(&self, name: &Name) -> usize {
+        let Some(number) = self.index.number(name) else {
+            return 0;
+        };
+        match self.index.document(number) {
+            Some((_, body)) => body.as_bytes().len(),
+            None => 0,
+        }
     }
 }
 

@@ -36,7 +36,7 @@ const MAX_TIMES: usize = 16;
 
 /// A setting, and the text after it.
 #[derive(Clone, Copy, Debug)]
-pub struct Taken<'t> {
+pub struct CutSetting<'t> {
     /// The setting.
     pub setting: Setting<'t>,
     /// The text after it.
@@ -49,7 +49,10 @@ pub struct Taken<'t> {
 /// An `Err` is the first fault of the setting: `NoSeparator` if the text is empty, or ends where `-n` or `-N` needs a
 /// word; `BadOption` if its first word names no option; `Twice`, `TooOften` or `Exclude` if the option cannot follow
 /// the earlier ones; or `NeedsNumber` if no number within its range follows it. It is never `OutOfMemory`.
-pub fn take_setting<'t>(earlier: &[Setting<'t>], text: &'t [u8]) -> Result<Taken<'t>, FindFault<'t>>
+pub fn take_setting<'t>(
+    earlier: &[Setting<'t>],
+    text: &'t [u8],
+) -> Result<CutSetting<'t>, FindFault<'t>>
     requires { first_word text.now ≢ codes "--" }
     ensures ok { IfOk result (λ taken. SpellsSetting text.now taken.rest.now (shown_setting taken.setting)) }
     ensures free { IfOk result (λ taken. IsFree taken.setting.name (shown_settings earlier.now)) }
@@ -67,7 +70,7 @@ pub fn take_setting<'t>(earlier: &[Setting<'t>], text: &'t [u8]) -> Result<Taken
         return Err(fault);
     }
     let followed = take_argument(name, cut.after)?;
-    Ok(Taken {
+    Ok(CutSetting {
         setting: Setting {
             name,
             argument: followed.argument,

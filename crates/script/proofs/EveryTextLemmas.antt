@@ -13,7 +13,7 @@ use Rattle.script.specs.Items.{Numbered, numbered, ItemsFrom, done, blank_line, 
 use Rattle.script.specs.Items.{missing_body, short_body, open_body, BeginsWithLine, ended, last, IsLine, IsPutLine, is_blank, is_put, item_of_line}
 use Rattle.script.specs.Items.{line_feeds, put, bad_put, truncated, body_not_closed}
 use Rattle.script.specs.Private.Cuts.{CutsLast, Lacks, shown_fields}
-use Rattle.script.proofs.ReaderLemmas.{no_header_without_space, no_header_without_size, no_put_line, put_line_by_fields}
+use Rattle.script.proofs.PutLemmas.{no_header_without_space, no_header_without_size, no_put_line, put_line_by_fields}
 
 abbrev pub Items : ℕ → List ℕ → Type 0
 Items n text = (items : List Numbered) × ItemsFrom n text items

@@ -1,4 +1,4 @@
 pub mod FieldLemmas
-pub mod ReaderLemmas
+pub mod PutLemmas
 pub mod OneReading
 pub mod EveryTextLemmas

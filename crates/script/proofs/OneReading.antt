@@ -7,14 +7,19 @@ use Rattle.std.proofs.Math.Seq.{take-append_seam, drop-append_seam}
 use Rattle.std.proofs.lemmas.List.Elements.{recursion_from_All}
 use Rattle.ere.specs.Classes.{is_digit}
 use Rattle.script.specs.Fields.{fields_of, SpellsSize}
-use Rattle.script.specs.Private.Cuts.{Lacks, CutsLine}
+use Rattle.script.specs.Private.Cuts.{Cuts, Lacks}
 use Rattle.script.specs.Items.{Numbered, numbered, ItemsFrom, done, blank_line, other_line, closed_put, last_put, bad_put_line}
-use Rattle.script.specs.Items.{missing_body, short_body, open_body, BeginsWithLine, ended, last, IsPutLine, is_put, is_blank, item_of_line}
+use Rattle.script.specs.Items.{missing_body, short_body, open_body, BeginsWithLine, ended, last, IsLine, IsPutLine, is_put, is_blank, item_of_line}
 use Rattle.script.specs.Items.{line_feeds, put, bad_put, truncated, body_not_closed}
 use Rattle.script.specs.Line.{Says, SayTheSame}
 use Rattle.script.specs.declared.line.Line as program
 use Rattle.script.specs.declared.line.Line.TheVariants as variants
-use Rattle.script.proofs.ReaderLemmas.{in_back, last_cut_once, lacks_byte}
+use Rattle.script.proofs.PutLemmas.{in_back, last_cut_once, lacks_byte}
+
+-- the first line, and what follows its line feed, if it has one
+abbrev CutsLine : List ℕ → List ℕ → Option (List ℕ) → Type 0
+CutsLine text line (Some rest) = Cuts 10 text line rest
+CutsLine text line None = (text ≡ line) × IsLine line
 
 -- What the front of a text leads to.
 data Next : Type 0 where

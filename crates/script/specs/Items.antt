@@ -124,11 +124,6 @@ pub data BeginsWithLine (text line rest : List ℕ) : Type 0 where
   ended : text ≡ line ++ 10 ∷ rest → IsLine line → BeginsWithLine text line rest
   last : text ≡ line → IsLine line → line ≢ [] → rest ≡ [] → BeginsWithLine text line rest
 
--- A text of nothing but empty lines and comments.
-pub data IsBlankText : List ℕ → Type 0 where
-  empty : IsBlankText []
-  one_more : {text : List ℕ} (line rest : List ℕ) → BeginsWithLine text line rest → IsTrue (is_blank line) → IsBlankText rest → IsBlankText text
-
 -- The line of a put of this name, for a body of this many bytes.
 abbrev pub IsPutLine : List ℕ → List ℕ → ℕ → Type 0
 IsPutLine line name size = IsLine line × (fields : List ℕ) × (line ≡ codes "put " ++ fields) × IsPutHeader fields name size

@@ -1,11 +1,11 @@
-//! Texts cut in two: at a line feed, at a space.
+//! Lines cut in two at a space, and the numbers in them.
 
 ghost use Rattle.std.specs.Prelude.{◌≡◌, ◌≢◌, ℕ, ◌+◌, ◌<◌, ◌^◌, List, [], ◌∷◌, ◌++◌, length, MatchOption, option_map};
 ghost use Rattle.std.specs.Prelude.{min, IsTrue, IsFalse};
 ghost use Rattle.ere.specs.Tokens.{decimal_value};
 ghost use Rattle.script.specs.Fields.{SpellsSize, fields_of};
 ghost use Rattle.script.specs.Items.{is_number, cancelled_number};
-ghost use Rattle.script.specs.Private.Cuts.{Cuts, CutsLast, Lacks, CutsLine, shown_fields};
+ghost use Rattle.script.specs.Private.Cuts.{Cuts, CutsLast, Lacks, shown_fields};
 
 use memchr::{memchr, memrchr};
 
@@ -26,31 +26,6 @@ pub fn cut_at_last(byte: u8, text: &[u8]) -> Option<(&[u8], &[u8])>
 {
     let at = memrchr(byte, text)?;
     Some((&text[..at], &text[at + 1..]))
-}
-
-/// The first line of a text, and what follows it.
-#[derive(Clone, Copy, Debug)]
-pub struct CutLine<'a> {
-    /// The line, without its line feed.
-    pub line: &'a [u8],
-    /// What follows the line's line feed, if it has one.
-    pub rest: Option<&'a [u8]>,
-}
-
-/// Cuts a text after its first line.
-pub fn cut_line(text: &[u8]) -> CutLine<'_>
-    ensures { CutsLine text.now result.line.now (option_map (λ rest. rest.now) result.rest) }
-{
-    match cut_at(b'\n', text) {
-        Some((line, rest)) => CutLine {
-            line,
-            rest: Some(rest),
-        },
-        None => CutLine {
-            line: text,
-            rest: None,
-        },
-    }
 }
 
 /// The first field of a line, up to its first space, and what follows that space. `None` in place of the latter if the

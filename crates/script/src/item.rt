@@ -1,17 +1,11 @@
-//! The items of a script. The language is this program's own: one space separates fields, and `docs/SCRIPT.md`
-//! has its table of lines.
+//! The items that are a line each. The language is this program's own: one space separates fields, and
+//! `docs/SCRIPT.md` has its table of lines.
 
 use ere::Case;
 
-/// An item of a script, with its texts and bodies as they are in the script.
+/// An item that is a line by itself, with its texts as they are in the line.
 #[derive(Clone, Copy, Debug)]
 pub enum Item<'a> {
-    /// `put NAME N` and the N bytes after its line. The name and the body are not checked yet: they
-    /// may be empty or invalid.
-    Put {
-        name: &'a [u8],
-        body: &'a [u8],
-    },
     /// `load NAME PATH`. The path is not empty.
     Load {
         name: &'a [u8],
@@ -50,19 +44,4 @@ pub enum Item<'a> {
     Status,
     /// Any other line.
     BadLine,
-    /// A bad put: a line of a put without a name and a size. Nothing is read after it.
-    BadPut,
-    /// A put that the script's end cuts short. Nothing is read after it.
-    Truncated,
-    /// A put with a byte other than a line feed after its bytes. Nothing is read after it.
-    BodyNotClosed,
-}
-
-/// An item and the number of its line.
-#[derive(Clone, Copy, Debug)]
-pub struct Numbered<'a> {
-    /// The number of the item's line, from 1. The lines of bodies count too.
-    pub line: u32,
-    /// What the line says.
-    pub item: Item<'a>,
 }

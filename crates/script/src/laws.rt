@@ -5,7 +5,7 @@ ghost use Rattle.script.specs.Items.{Numbered as NumberedItem, ItemsFrom};
 ghost use Rattle.script.specs.Line.{Says, SayTheSame};
 ghost use Rattle.script.specs.declared.line.Line.{Line as LineValue};
 
-use crate::reader::MAX_SCRIPT;
+use crate::line::MAX_SCRIPT;
 
 /// A script has at most 67,108,864 bytes (this program's choice).
 pub fn script_limit()

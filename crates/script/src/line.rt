@@ -1,12 +1,16 @@
 //! One line of a script, read by itself.
 
-ghost use Rattle.std.specs.Prelude.{codes, option_map};
-ghost use Rattle.script.specs.Items.{IsLine};
+ghost use Rattle.std.specs.Prelude.{◌≡◌, codes, option_map};
+ghost use Rattle.script.specs.Items.{is_blank, IsLine};
 ghost use Rattle.script.specs.Line.{Says};
 
 use crate::cuts::cut_at_space;
+use crate::header::header_in;
 use crate::item::Item;
-use crate::reader::{header_in, is_blank_line, item_of};
+use crate::keywords::item_of;
+
+/// The greatest length of a script, in bytes (this program's choice).
+pub const MAX_SCRIPT: usize = 67_108_864;
 
 /// What a line says by itself.
 #[derive(Clone, Copy, Debug)]
@@ -41,5 +45,15 @@ pub fn read_line(line: &[u8]) -> Line<'_>
         }
     } else {
         Line::Other(item_of(keyword, others))
+    }
+}
+
+/// Whether a line, given without its line feed, is blank: empty, or a comment, which begins with `#`.
+pub fn is_blank_line(line: &[u8]) -> bool
+    ensures { result ≡ is_blank line.now }
+{
+    match line.first() {
+        None => true,
+        Some(b) => *b == b'#',
     }
 }

@@ -17,7 +17,7 @@ use Rattle.request.specs.declared.options.View.{View}
 use Rattle.request.specs.declared.options.View.TheVariants as view
 use Rattle.search.specs.Front.{AreFronted}
 use Rattle.prepare.specs.Prepared.{pattern_of, request_of}
-use Rattle.search.specs.Private.Gathered.{AreGathered, Gathers, HaveBodies, HaveOwnNames, Joins, shown_with, trimmed, view_of, with_limit}
+use Rattle.search.specs.Private.Gathered.{AreGathered, Gathers, HaveBodies, HaveOwnNames, Joins, shown_with, kept_of, trimmed, with_limit}
 use Rattle.prepare.specs.Request.{Request}
 use Rattle.views.specs.Found.{Hit}
 use Rattle.search.specs.Scan.{IsScanOf, candidates_of}
@@ -34,7 +34,6 @@ use Rattle.search.specs.declared.gathered.Wanted.{Wanted}
 use Rattle.prepare.specs.declared.pattern.Prepared.{Prepared}
 use Rattle.search.specs.declared.side_by_side.Joined.{Joined}
 use Rattle.search.proofs.CandidateLemmas.{wanted_are}
-use Rattle.search.proofs.GathersLemmas.{case-true}
 use Rattle.search.proofs.ScanLemmas.{AreWanted}
 use Rattle.search.proofs.TakenLemmas.{found_hits}
 use Rattle.std.specs.Prelude.{flat_map}
@@ -103,7 +102,7 @@ final-rows request view.Header all hits rows are = are
 module _ (state : State) (prepared : Prepared) (taken kept : List SharedDocument) (wanted : Wanted) (joined : Joined)
     (order : AreFronted state (pattern_of prepared) (documents_shared taken))
     (pairs : AllPairs (λ d e. d.name ≢ e.name) state.documents) (named : Selects (IsNamedForAll (pattern_of prepared).names) taken kept)
-    (is_prepared : wanted.prepared.now ≡ prepared) (is_limit : wanted.limit ≡ prepared.limit) (is_view : view_of wanted ≡ prepared.view)
+    (is_prepared : wanted.prepared.now ≡ prepared) (is_limit : wanted.limit ≡ prepared.limit) (is_view : wanted.view ≡ prepared.view)
     (joins : HaveOwnNames kept → Joins wanted wanted.limit kept joined) where
   are : AreWanted state (pattern_of prepared) (documents_shared kept)
   are = wanted_are state (pattern_of prepared) taken kept order named
@@ -143,21 +142,21 @@ module _ (state : State) (prepared : Prepared) (taken kept : List SharedDocument
     are_rows =
         final-rows (request_of prepared) prepared.view state.documents is.hits is.rows
         (subst (λ v. AreGathered (request_of prepared) v state.documents is.hits is.rows) is_view
-        (subst (λ r. AreGathered r (view_of wanted) state.documents is.hits is.rows) same_request (is.is_gathered.rows state.documents bodies)));
+        (subst (λ r. AreGathered r wanted.view state.documents is.hits is.rows) same_request (is.is_gathered.rows state.documents bodies)));
     view = refl;
     version = refl;
     count =
         is.is_gathered.count
-        ∙ (ap (λ (r : Request). at_most r.limit (total (view_of wanted) is.hits)) same_request
+        ∙ (ap (λ (r : Request). at_most r.limit (total wanted.view is.hits)) same_request
         ∙ ap (λ v. at_most prepared.limit (total v is.hits)) is_view);
     more =
         is.is_gathered.more
-        ∙ (ap (λ (r : Request). is_over r.limit (total (view_of wanted) is.hits)) same_request
+        ∙ (ap (λ (r : Request). is_over r.limit (total wanted.view is.hits)) same_request
         ∙ ap (λ v. is_over prepared.limit (total v is.hits)) is_view);
     row_count = is.row_count ∙ ap (λ v. length (trimmed v is.rows)) is_view;
     text =
         is.text
-        ∙ (ap (λ (p : Prepared). text_of_rows p.zero (trimmed (view_of wanted) is.rows)) is_prepared
+        ∙ (ap (λ (p : Prepared). text_of_rows p.zero (trimmed wanted.view is.rows)) is_prepared
         ∙ ap (λ v. text_of_rows prepared.zero (trimmed v is.rows)) is_view);
     documents = refl;
     candidates = refl;
@@ -166,14 +165,13 @@ module _ (state : State) (prepared : Prepared) (taken kept : List SharedDocument
 -- the hits, where lines alone are gathered, with no limit
 pub hits-are : (state : State) (prepared : Prepared) (taken kept shown : List SharedDocument) (wanted : Wanted) (gathered : Gathered)
     → AreFronted state (pattern_of prepared) (documents_shared taken)
-    → Selects (IsNamedForAll (pattern_of prepared).names) taken kept → shown ≡ kept → wanted.prepared.now ≡ prepared → wanted.lines ≡ true
+    → Selects (IsNamedForAll (pattern_of prepared).names) taken kept → shown ≡ kept → wanted.prepared.now ≡ prepared → wanted.view ≡ view.Lines
     → wanted.limit ≡ None → (HaveOwnNames shown → Gathers wanted shown gathered) → IsScanOf state (pattern_of prepared) gathered.hits
 hits-are state prepared taken kept shown wanted gathered order named same is_prepared lines none gathers =
     let own = own-rises kept (wanted_are state (pattern_of prepared) taken kept order named).rises in
     let is : Gathers wanted kept gathered = subst (λ ds. HaveOwnNames ds → Gathers wanted ds gathered) same gathers own in
     let hits : gathered.hits ≡ is.hits =
-    case-true wanted.lines (gathered.hits ≡ limited wanted.limit is.hits) (gathered.text.items ≡ text_of_rows wanted.prepared.now.zero is.rows) lines
-    is.held ∙ ap (λ limit. limited limit is.hits) none in
+    is.kept ∙ (ap (λ v. kept_of v (limited wanted.limit is.hits)) lines ∙ ap (λ limit. limited limit is.hits) none) in
     subst (λ hs. IsScanOf state (pattern_of prepared) hs) (sym hits)
     (found_hits state (pattern_of prepared) (pattern_of prepared) taken kept kept is.hits refl order named refl
     (subst (λ (p : Prepared). Selects (IsAsked (test_of p.line)) (flat_map lines_of_taken kept) is.hits) is_prepared is.found))

@@ -1,6 +1,6 @@
 -- Hits of one document, as its rows are formed from them: their numbers rise, and their lines have no line feed.
-use Rattle.std.proofs.Common.{◌≡◌, ℕ, zero, suc, ◌+◌, ◌≤◌, ◌<◌, Option, Some, None, List, [], ◌∷◌, ◌++◌, map, length, take, slice_index, sym, subst, arith}
-use Rattle.std.specs.Prelude.{All}
+use Rattle.std.proofs.Common.{◌≡◌, ℕ, zero, suc, ◌+◌, ◌≤◌, ◌<◌, Bool, true, false, Option, Some, None, List, [], ◌∷◌, ◌++◌, map, length, take, slice_index, refl, sym, subst, arith}
+use Rattle.std.specs.Prelude.{All, if◌then◌else◌}
 use Rattle.std.specs.List.{AllByRecursion}
 use Rattle.std.specs.List.Sorted.{IsStrictlyIncreasing}
 use Rattle.std.proofs.lemmas.List.Elements.{All-nil, All-cons}
@@ -10,8 +10,11 @@ use Rattle.index.specs.declared.document.SharedDocument.{SharedDocument}
 use Rattle.lines.specs.Lines.{lines_of}
 use Rattle.search.specs.Private.Added.{AddsUpTo}
 use Rattle.search.specs.Private.Documents.{lines_of_taken}
+use Rattle.search.specs.Private.Gathered.{shown_hits}
 use Rattle.search.specs.Private.Seekers.{IsOneLine}
+use Rattle.request.specs.declared.options.View.{View}
 use Rattle.views.specs.Found.{Hit}
+use Rattle.views.specs.View.{shows_names}
 use Rattle.search.specs.Selects.{Selects, done, keep, skip}
 use Rattle.views.specs.Found.{numbered}
 use Rattle.search.specs.Rows.{limited}
@@ -81,16 +84,27 @@ all-from P (x ∷ xs) h = All-cons P x xs h.0 (all-from P xs h.1)
 -- ---- what a scan adds to nothing
 
 module _ (Has : Hit → Type 0) (d : SharedDocument) (most : Option ℕ) (hits : List Hit) (adds : AddsUpTo most Has (lines_of_taken d) [] hits)
-    (limit : Option ℕ) where
-  pub rising : IsStrictlyIncreasing (map (λ h. h.line) (limited limit hits))
+    (shown : View) (left : Option ℕ) where
+  abbrev cut : Option ℕ
+  cut = if shows_names shown then None else left
+
+  is_cut : limited cut hits ≡ shown_hits shown left hits
+  is_cut = go (shows_names shown)
+    where
+      go : (b : Bool) → limited (if b then None else left) hits ≡ (if b then hits else limited left hits)
+      go true = refl
+      go false = refl
+
+  pub rising : IsStrictlyIncreasing (map (λ h. h.line) (shown_hits shown left hits))
   rising =
       let all = rises-Selects 1 adds.selected (rises-numbered d.name 1 (lines_of d.held)) in
       let first = subst (λ hs. Rises 1 hs) (sym adds.appended) (rises-left 1 adds.added adds.rest all) in
-      λ k inside. increasing 1 k (k + 1) (limited limit hits) (rises-limited 1 limit hits first) (omega arith) inside
+      subst (λ hs. IsStrictlyIncreasing (map (λ (h : Hit). h.line) hs)) is_cut
+      (λ k inside. increasing 1 k (k + 1) (limited cut hits) (rises-limited 1 cut hits first) (omega arith) inside)
 
-  pub feedless : All (λ h. IsOneLine h.text) (limited limit hits)
+  pub feedless : All (λ h. IsOneLine h.text) (shown_hits shown left hits)
   feedless =
       let P = λ (h : Hit). IsOneLine h.text in
       let all = All-Selects P adds.selected (one-numbered d.name 1 (lines_of d.held) (one-lines (lines_of d.held) (lines-feedless d.held))) in
       let first = subst (λ hs. AllByRecursion P hs) (sym adds.appended) (All-left P adds.added adds.rest all) in
-      all-from P (limited limit hits) (All-limited P limit hits first)
+      subst (λ hs. All P hs) is_cut (all-from P (limited cut hits) (All-limited P cut hits first))

@@ -1,12 +1,12 @@
 -- What is gathered, from document to document.
-use Rattle.std.proofs.Common.{◌≡◌, ℕ, zero, suc, ◌+◌, ◌-◌, ◌≤◌, ◌<◌, ◌⊎◌, inl, inr, Bool, true, false, not, Option, Some, None, List, [], ◌∷◌, ◌++◌, map, length, length-drop, take, drop, get_or, refl, sym, ◌∙◌, ap, subst, arith, append_assoc}
-use Rattle.std.specs.Prelude.{MatchBool, if◌then◌else◌}
+use Rattle.std.proofs.Common.{◌≡◌, ℕ, zero, suc, ◌+◌, ◌-◌, ◌≤◌, ◌<◌, ◌⊎◌, inl, inr, Bool, true, false, Option, Some, None, List, [], ◌∷◌, ◌++◌, map, length, length-drop, take, drop, get_or, refl, sym, ◌∙◌, ap, subst, arith, append_assoc}
+use Rattle.std.specs.Prelude.{if◌then◌else◌, min}
 use Rattle.std.specs.List.{AllByRecursion}
 use Rattle.std.proofs.lemmas.Bool.{false≢true}
 use Rattle.std.proofs.lemmas.Bool.Decides.{nat_tests}
 use Rattle.std.proofs.lemmas.Grind.{flat_map-append}
 use Rattle.std.proofs.Math.Seq.{take-suc}
-use Rattle.std.proofs.lemmas.List.{append-nil, length-append, nil_from_length, take_all, take-append-drop}
+use Rattle.std.proofs.lemmas.List.{append-nil, length-append, take_all, take-append-drop}
 use Rattle.index.specs.Documents.{Document}
 use Rattle.index.specs.declared.document.SharedDocument.{SharedDocument}
 use Rattle.request.specs.declared.options.View.{View}
@@ -16,7 +16,7 @@ use Rattle.search.specs.declared.gathered.Wanted.{Wanted}
 use Rattle.prepare.specs.Prepared.{request_of}
 use Rattle.search.specs.Private.Added.{AddsUpTo, IsReached}
 use Rattle.search.specs.Private.Documents.{lines_of_taken}
-use Rattle.search.specs.Private.Gathered.{AreGathered, AsksForName, FoundIn, Gathers, GathersMore, HaveBodies, HaveOwnNames, IsGathered, left_from, one_more, request_for, view_of, with_limit}
+use Rattle.search.specs.Private.Gathered.{all_or_one, AreGathered, AreRowsUpTo, asked, formed_of, FoundIn, Gathers, GathersMore, HaveBodies, HaveOwnNames, IsGathered, kept_of, left_from, number_of, one_more, request_for, shown_hits, shows_lines, with_limit}
 use Rattle.search.specs.Private.Rows.{AreRowsOf}
 use Rattle.prepare.specs.Request.{Request}
 use Rattle.views.specs.Found.{Hit}
@@ -24,9 +24,9 @@ use Rattle.search.specs.Selects.{Selects, done, IsAsked}
 use Rattle.prepare.specs.Tests.{test_of}
 use Rattle.views.specs.Text.{text_of_row, text_of_rows}
 use Rattle.search.specs.Rows.{AreRows, name_with_count, hits_in, at_most, is_over, limited, names_of, total}
-use Rattle.views.specs.View.{Row, hit, name, count, shows_names}
+use Rattle.views.specs.View.{Row, name, count, shows_names}
 use Rattle.search.proofs.GatherLemmas.{All-limited, gathered-append, gathered-over, found-apart, named-one, own-left, rows-none, names-none, rows-one, total-lines, total-names}
-use Rattle.search.proofs.LimitLemmas.{limited-all, limited-over, limited-cut, length-limited}
+use Rattle.search.proofs.LimitLemmas.{at_most-within, limited-all, limited-front, limited-over, limited-cut, length-limited}
 use Rattle.search.proofs.SelectsLemmas.{Selects-append}
 use Rattle.search.proofs.UpToLemmas.{selection_of_text}
 use Rattle.search.proofs.ViewLemmas.{names-one, hits_in-all}
@@ -39,24 +39,20 @@ zero_most : (limit : Option ℕ) → at_most limit 0 ≡ 0
 zero_most None = refl
 zero_most (Some most) = omega arith
 
-both-cases : (b : Bool) (P Q : Type 0) → (b ≡ true → P) → (b ≡ false → Q) → MatchBool b P Q
-both-cases true P Q f g = f refl
-both-cases false P Q f g = g refl
+pub lines_viewed : (shown : View) → shows_lines shown ≡ true → shown ≡ view.Lines
+lines_viewed view.Lines e = refl
+lines_viewed (view.Context most) e = absurd (false≢true e)
+lines_viewed view.Column e = absurd (false≢true e)
+lines_viewed view.Spans e = absurd (false≢true e)
+lines_viewed view.Names e = absurd (false≢true e)
+lines_viewed view.Counts e = absurd (false≢true e)
+lines_viewed view.Header e = absurd (false≢true e)
 
-pub case-true : (b : Bool) (P Q : Type 0) → b ≡ true → MatchBool b P Q → P
-case-true b P Q e h = subst (λ x. MatchBool x P Q) e h
+pub kept-lines : (shown : View) (hits : List Hit) → shows_lines shown ≡ true → kept_of shown hits ≡ hits
+kept-lines shown hits e = ap (λ b. if b then hits else []) e
 
-pub case-false : (b : Bool) (P Q : Type 0) → b ≡ false → MatchBool b P Q → Q
-case-false b P Q e h = subst (λ x. MatchBool x P Q) e h
-
-pub lines_viewed : (wanted : Wanted) → wanted.lines ≡ true → view_of wanted ≡ view.Lines
-lines_viewed wanted e = rw e refl
-
-pub rows_viewed : (wanted : Wanted) → wanted.lines ≡ false → view_of wanted ≡ wanted.prepared.now.view
-rows_viewed wanted e = rw e refl
-
-total-viewed : (wanted : Wanted) → wanted.lines ≡ true → (hits : List Hit) → total (view_of wanted) hits ≡ length hits
-total-viewed wanted e hits = ap (λ v. total v hits) (lines_viewed wanted e)
+pub kept-others : (shown : View) (hits : List Hit) → shows_lines shown ≡ false → kept_of shown hits ≡ []
+kept-others shown hits e = ap (λ b. if b then hits else []) e
 
 -- nothing of no hits
 nothing : (request : Request) (shown : View) (all : List Document) → AreGathered request shown all [] []
@@ -77,6 +73,13 @@ no_total shown = go (shows_names shown)
 
 pub text-rows-append : (byte : Bool) (rows others : List Row) → text_of_rows byte (rows ++ others) ≡ text_of_rows byte rows ++ text_of_rows byte others
 text-rows-append byte rows others = flat_map-append (text_of_row byte) rows others
+
+formed-append : (shown : View) (rows others : List Row) → formed_of shown (rows ++ others) ≡ formed_of shown rows ++ formed_of shown others
+formed-append shown rows others = go (shows_lines shown)
+  where
+    go : (b : Bool) → (if b then [] else rows ++ others) ≡ (if b then [] else rows) ++ (if b then [] else others)
+    go true = refl
+    go false = refl
 
 module _ (wanted : Wanted) where
   abbrev pub limit : Option ℕ
@@ -106,15 +109,22 @@ module _ (wanted : Wanted) where
     rows = [];
     is_gathered =
         record {
-          rows = λ all bodies. nothing (request_for wanted) (view_of wanted) all;
-          count = counted ∙ sym (ap (λ n. at_most limit n) (no_total (view_of wanted)) ∙ zero_most limit);
-          more = more ∙ sym (ap (λ n. is_over limit n) (no_total (view_of wanted)) ∙ zero_within limit);
+          rows = λ all bodies. nothing (request_for wanted) wanted.view all;
+          count = counted ∙ sym (ap (λ n. at_most limit n) (no_total wanted.view) ∙ zero_most limit);
+          more = more ∙ sym (ap (λ n. is_over limit n) (no_total wanted.view) ∙ zero_within limit);
         };
-    held =
-        both-cases wanted.lines (g.hits ≡ limited limit []) (g.text.items ≡ text_of_rows wanted.prepared.now.zero [])
-        (λ _. hits ∙ sym (limited-all limit [] (zero_within limit))) (λ _. text);
+    kept = hits ∙ sym (ap (λ hs. kept_of wanted.view hs) (limited-all limit [] (zero_within limit)) ∙ no-hits (shows_lines wanted.view));
+    text = text ∙ sym (ap (λ rs. text_of_rows wanted.prepared.now.zero rs) (no-rows (shows_lines wanted.view)));
     row_count = rows;
   }
+    where
+      no-hits : (b : Bool) → ◌≡◌ {A = List Hit} (if b then [] else []) []
+      no-hits true = refl
+      no-hits false = refl
+
+      no-rows : (b : Bool) → ◌≡◌ {A = List Row} (if b then [] else []) []
+      no-rows true = refl
+      no-rows false = refl
 
   pub gathers-none : (g : Gathered) → GathersMore wanted [] g g
   gathers-none g = λ before own is. subst (λ ds. Gathers wanted ds g) (sym (append-nil before)) is
@@ -131,100 +141,79 @@ module _ (wanted : Wanted) where
   gathers-over documents g more = λ before own is.
       let rest = selection_of documents in
       let test = test_of wanted.prepared.now.line in
-      let over : is_over limit (total (view_of wanted) is.hits) ≡ true = sym is.is_gathered.more ∙ more in
+      let over : is_over limit (total wanted.view is.hits) ≡ true = sym is.is_gathered.more ∙ more in
       record {
         hits = is.hits ++ rest.0;
         found = found-both before documents is.hits rest.0 is.found rest.1;
         rows = is.rows;
         is_gathered =
-            subst (λ m. IsGathered (request_for wanted) (view_of wanted) (before ++ documents) (is.hits ++ rest.0) is.rows g.count m) (sym more)
-            (gathered-over (request_for wanted) (view_of wanted) before documents is.hits rest.0
+            subst (λ m. IsGathered (request_for wanted) wanted.view (before ++ documents) (is.hits ++ rest.0) is.rows g.count m) (sym more)
+            (gathered-over (request_for wanted) wanted.view before documents is.hits rest.0
             (found-apart test before documents is.hits rest.0 own is.found rest.1) is.rows [] g.count 0
-            (subst (λ m. IsGathered (request_for wanted) (view_of wanted) before is.hits is.rows g.count m) more is.is_gathered));
-        held =
-            both-cases wanted.lines (g.hits ≡ limited limit (is.hits ++ rest.0)) (g.text.items ≡ text_of_rows wanted.prepared.now.zero is.rows)
-            (λ e.
-            case-true wanted.lines (g.hits ≡ limited limit is.hits) (g.text.items ≡ text_of_rows wanted.prepared.now.zero is.rows) e is.held
-            ∙ sym (limited-over limit is.hits rest.0 (ap (λ n. is_over limit n) (sym (total-viewed wanted e is.hits)) ∙ over)))
-            (λ e. case-false wanted.lines (g.hits ≡ limited limit is.hits) (g.text.items ≡ text_of_rows wanted.prepared.now.zero is.rows) e is.held);
+            (subst (λ m. IsGathered (request_for wanted) wanted.view before is.hits is.rows g.count m) more is.is_gathered));
+        kept = is.kept ∙ kept-over is.hits rest.0 over;
+        text = is.text;
         row_count = is.row_count;
       }
-
-  -- the lines of one more document
-  pub gathers-lines : (d : SharedDocument) (old new : Gathered) (mid : List Hit) → wanted.lines ≡ true → old.more ≡ false
-      → AddsUpTo (one_more limit) (IsAsked (test_of wanted.prepared.now.line)) (lines_of_taken d) old.hits mid → new.hits ≡ limited limit mid
-      → new.more ≡ is_over limit (length mid) → new.count ≡ length new.hits → new.rows ≡ new.count → GathersMore wanted (d ∷ []) old new
-  unfolding AreGathered AreRows
-  gathers-lines d old new mid lines fewer adds cut over counted same = λ before own is.
-      let byte = wanted.prepared.now.zero in
-      let within : is_over limit (length is.hits) ≡ false =
-      ap (λ n. is_over limit n) (sym (total-viewed wanted lines is.hits)) ∙ (sym is.is_gathered.more ∙ fewer) in
-      let all = is.hits ++ (adds.added ++ adds.rest) in
-      let old_is : old.hits ≡ is.hits =
-      case-true wanted.lines (old.hits ≡ limited limit is.hits) (old.text.items ≡ text_of_rows byte is.rows) lines is.held
-      ∙ limited-all limit is.hits within in
-      let whole : all ≡ mid ++ adds.rest =
-      sym (append_assoc is.hits adds.added adds.rest)
-      ∙ ap (λ hits. hits ++ adds.rest) (ap (λ hits. hits ++ adds.added) (sym old_is) ∙ sym adds.appended) in
-      let parts = limited-cut limit mid adds.rest adds.ended in
-      let shown : new.hits ≡ limited limit all = cut ∙ sym (ap (λ hits. limited limit hits) whole ∙ parts.0) in
-      let size : new.count ≡ at_most limit (length all) = counted ∙ (ap length shown ∙ length-limited limit all) in
-      let more : new.more ≡ is_over limit (length all) = over ∙ sym (ap (λ hits. is_over limit (length hits)) whole ∙ parts.1) in
-      let is_all : IsGathered (request_for wanted) view.Lines (before ++ d ∷ []) all (map hit (limited limit all)) new.count new.more =
-      record { rows = λ documents bodies. refl; count = size; more = more } in
-      record {
-        hits = all;
-        found = found-both before (d ∷ []) is.hits (adds.added ++ adds.rest) is.found (found-one d (adds.added ++ adds.rest) adds.selected);
-        rows = map hit (limited limit all);
-        is_gathered =
-            subst (λ v. IsGathered (request_for wanted) v (before ++ d ∷ []) all (map hit (limited limit all)) new.count new.more)
-            (sym (lines_viewed wanted lines)) is_all;
-        held =
-            both-cases wanted.lines (new.hits ≡ limited limit all) (new.text.items ≡ text_of_rows byte (map hit (limited limit all))) (λ _. shown)
-            (λ e. absurd (false≢true (sym e ∙ lines)));
-        row_count = same ∙ (counted ∙ (ap length shown ∙ sym (length-rows (limited limit all))));
-      }
     where
-      length-rows : (hits : List Hit) → length (map hit hits) ≡ length hits
-      length-rows [] = refl
-      length-rows (x ∷ hits) = ap suc (length-rows hits)
+      kept-over : (xs ys : List Hit) → is_over limit (total wanted.view xs) ≡ true
+          → kept_of wanted.view (limited limit xs) ≡ kept_of wanted.view (limited limit (xs ++ ys))
+      kept-over xs ys over = go (shows_lines wanted.view) refl
+        where
+          go : (b : Bool) → shows_lines wanted.view ≡ b → (if b then limited limit xs else []) ≡ (if b then limited limit (xs ++ ys) else [])
+          go true e = sym (limited-over limit xs ys (ap (λ v. is_over limit (total v xs)) (sym (lines_viewed wanted.view e)) ∙ over))
+          go false e = refl
 
-  -- rows of one more document
-  pub gathers-one : (d : SharedDocument) (old new : Gathered) (hits : List Hit) (rows : List Row) (c : ℕ) → wanted.lines ≡ false → old.more ≡ false
+  -- one more document with these hits, the first of which were found
+  pub gathers-one : (d : SharedDocument) (old new : Gathered) (found hits : List Hit) (rows : List Row) (c : ℕ) → old.more ≡ false
       → Selects (IsAsked (test_of wanted.prepared.now.line)) (lines_of_taken d) hits
-      → IsGathered (with_limit (left_from limit old.count) (request_for wanted)) (view_of wanted) (d ∷ []) hits rows c new.more
-      → new.text.items ≡ old.text.items ++ text_of_rows wanted.prepared.now.zero rows → new.rows ≡ old.rows + length rows → new.count ≡ old.count + c
-      → GathersMore wanted (d ∷ []) old new
-  gathers-one d old new hits rows c lines fewer s one text row_count counted = λ before own is.
+      → (shows_names wanted.view ≡ false → limited (left_from limit old.count) hits ≡ limited (left_from limit old.count) found)
+      → IsGathered (with_limit (left_from limit old.count) (request_for wanted)) wanted.view (d ∷ []) hits rows c new.more
+      → new.hits ≡ kept_of wanted.view (limited limit (old.hits ++ found))
+      → new.text.items ≡ old.text.items ++ text_of_rows wanted.prepared.now.zero (formed_of wanted.view rows) → new.rows ≡ old.rows + length rows
+      → new.count ≡ old.count + c → GathersMore wanted (d ∷ []) old new
+  gathers-one d old new found hits rows c fewer s cut one kept text row_count counted = λ before own is.
       let byte = wanted.prepared.now.zero in
       let test = test_of wanted.prepared.now.line in
-      let found = found-one d hits s in
+      let selected = found-one d hits s in
       record {
         hits = is.hits ++ hits;
-        found = found-both before (d ∷ []) is.hits hits is.found found;
+        found = found-both before (d ∷ []) is.hits hits is.found selected;
         rows = is.rows ++ rows;
         is_gathered =
-            subst (λ n. IsGathered (request_for wanted) (view_of wanted) (before ++ d ∷ []) (is.hits ++ hits) (is.rows ++ rows) n new.more) (sym counted)
-            (gathered-append (request_for wanted) (view_of wanted) before (d ∷ []) is.hits hits
-            (found-apart test before (d ∷ []) is.hits hits own is.found found) is.rows rows old.count c new.more
-            (subst (λ m. IsGathered (request_for wanted) (view_of wanted) before is.hits is.rows old.count m) fewer is.is_gathered) one);
-        held =
-            both-cases wanted.lines (new.hits ≡ limited limit (is.hits ++ hits)) (new.text.items ≡ text_of_rows byte (is.rows ++ rows))
-            (λ e. absurd (false≢true (sym lines ∙ e)))
-            (λ e.
+            subst (λ n. IsGathered (request_for wanted) wanted.view (before ++ d ∷ []) (is.hits ++ hits) (is.rows ++ rows) n new.more) (sym counted)
+            (gathered-append (request_for wanted) wanted.view before (d ∷ []) is.hits hits
+            (found-apart test before (d ∷ []) is.hits hits own is.found selected) is.rows rows old.count c new.more
+            (subst (λ m. IsGathered (request_for wanted) wanted.view before is.hits is.rows old.count m) fewer is.is_gathered) one);
+        kept = kept ∙ kept-more is.hits is.kept is.is_gathered.count (sym is.is_gathered.more ∙ fewer);
+        text =
             text
-            ∙ (ap (λ t. t ++ text_of_rows byte rows)
-            (case-false wanted.lines (old.hits ≡ limited limit is.hits) (old.text.items ≡ text_of_rows byte is.rows) e is.held)
-            ∙ sym (text-rows-append byte is.rows rows)));
+            ∙ (ap (λ t. t ++ text_of_rows byte (formed_of wanted.view rows)) is.text
+            ∙ (sym (text-rows-append byte (formed_of wanted.view is.rows) (formed_of wanted.view rows))
+            ∙ ap (λ rs. text_of_rows byte rs) (sym (formed-append wanted.view is.rows rows))));
         row_count = row_count ∙ (ap (λ n. n + length rows) is.row_count ∙ sym (length-append is.rows rows));
       }
+    where
+      kept-more : (xs : List Hit) → old.hits ≡ kept_of wanted.view (limited limit xs) → old.count ≡ at_most limit (total wanted.view xs)
+          → is_over limit (total wanted.view xs) ≡ false
+          → kept_of wanted.view (limited limit (old.hits ++ found)) ≡ kept_of wanted.view (limited limit (xs ++ hits))
+      kept-more xs before many within = go (shows_lines wanted.view) refl
+        where
+          go : (b : Bool) → shows_lines wanted.view ≡ b
+              → (if b then limited limit (old.hits ++ found) else []) ≡ (if b then limited limit (xs ++ hits) else [])
+          go true e =
+              let is = lines_viewed wanted.view e in
+              let low : is_over limit (length xs) ≡ false = ap (λ v. is_over limit (total v xs)) (sym is) ∙ within in
+              let size : old.count ≡ length xs = many ∙ (ap (λ v. at_most limit (total v xs)) is ∙ at_most-within limit (length xs) low) in
+              let same : old.hits ≡ xs = before ∙ (kept-lines wanted.view (limited limit xs) e ∙ limited-all limit xs low) in
+              ap (λ hs. limited limit (hs ++ found)) same
+              ∙ (limited-front limit xs found low
+              ∙ (ap (λ n. xs ++ limited (left_from limit n) found) (sym size)
+              ∙ (ap (λ hs. xs ++ hs) (sym (cut (ap (λ v. shows_names v) is)))
+              ∙ (ap (λ n. xs ++ limited (left_from limit n) hits) size ∙ sym (limited-front limit xs hits low)))))
+          go false e = refl
 
 -- ---- one document
-
--- the rows of hits, if there are any
-abbrev pub RowsIf : Request → View → SharedDocument → List Hit → List Row → Type 0
-RowsIf request shown d [] rows = rows ≡ []
-RowsIf request shown d (x ∷ xs) rows = AreRowsOf request shown d.name d.held (x ∷ xs) rows
 
 rows_of-limit : (other : Option ℕ) (request : Request) (shown : View) (of body : List ℕ) (hits : List Hit) (rows : List Row)
     → AreRowsOf request shown of body hits rows → AreRowsOf (with_limit other request) shown of body hits rows
@@ -237,136 +226,171 @@ rows_of-limit other request view.Names of body hits rows is = is
 rows_of-limit other request view.Counts of body hits rows is = is
 rows_of-limit other request view.Header of body hits rows is = is
 
-pub rows_if : (request : Request) (shown : View) (d : SharedDocument) (hits : List Hit) (rows : List Row) → (hits ≡ [] → ⊥)
-    → AreRowsOf request shown d.name d.held hits rows → RowsIf request shown d hits rows
-rows_if request shown d [] rows some is = absurd (some refl)
-rows_if request shown d (x ∷ xs) rows some is = is
+asked-lines : (shown : View) (left : Option ℕ) → shows_names shown ≡ false → asked shown left ≡ one_more left
+asked-lines view.Lines left e = refl
+asked-lines (view.Context most) left e = refl
+asked-lines view.Column left e = refl
+asked-lines view.Spans left e = refl
+asked-lines view.Names left e = absurd (false≢true (sym e))
+asked-lines view.Counts left e = absurd (false≢true (sym e))
+asked-lines view.Header left e = refl
 
-module _ (request : Request) (shown : View) (d : SharedDocument) (Has : Hit → Type 0) (left most : Option ℕ) (found : List Hit)
-    (adds : AddsUpTo most Has (lines_of_taken d) [] found) (each : AllByRecursion (λ f. f.name ≡ d.name) (adds.added ++ adds.rest)) where
+-- where names are shown, at least one hit is asked for
+asks-some : (shown : View) (left : Option ℕ) → shows_names shown ≡ true → IsReached (asked shown left) 0 → ⊥
+asks-some view.Names left e h = absurd (omega (arith, h))
+asks-some view.Counts None e h = h
+asks-some view.Counts (Some zero) e h = absurd (omega (arith, h))
+asks-some view.Counts (Some (suc n)) e h = h
+asks-some view.Lines left e h = false≢true e
+asks-some (view.Context most) left e h = false≢true e
+asks-some view.Column left e h = false≢true e
+asks-some view.Spans left e h = false≢true e
+asks-some view.Header left e h = false≢true e
+
+module _ (request : Request) (shown : View) (d : SharedDocument) (Has : Hit → Type 0) (left : Option ℕ) (found : List Hit)
+    (adds : AddsUpTo (asked shown left) Has (lines_of_taken d) [] found) (each : AllByRecursion (λ f. f.name ≡ d.name) (adds.added ++ adds.rest)) where
   abbrev pub all : List Hit
   all = adds.added ++ adds.rest
+
+  abbrev pub number : ℕ
+  number = number_of shown (length found)
+
+  abbrev pub Gives : List Row → Type 0
+  Gives rows = IsGathered (with_limit left request) shown (d ∷ []) all rows (at_most left number) (is_over left number)
 
   found_first : found ++ adds.rest ≡ all
   found_first = ap (λ hits. hits ++ adds.rest) adds.appended
 
-  rows_by : (hits : List Hit) (rows : List Row) → shows_names shown ≡ false → limited left all ≡ hits
-      → AllByRecursion (λ f. f.name ≡ d.name) hits → RowsIf request shown d hits rows → (documents : List Document)
-      → HaveBodies documents (d ∷ []) → AreGathered (with_limit left request) shown documents all rows
-  rows_by [] rows lines is named none documents bodies =
-      subst (λ rs. AreGathered (with_limit left request) shown documents all rs) (sym none)
-      (rows-none (with_limit left request) shown documents all lines is)
-  rows_by (x ∷ xs) rows lines is named rows_are documents bodies =
-      rows-one (with_limit left request) documents d.name d.held bodies.0 x xs named.0 named.1 shown all rows lines is
-      (rows_of-limit left request shown d.name d.held (x ∷ xs) rows rows_are)
+  -- ---- its lines
 
-  pub one-rows : (hits : List Hit) (rows : List Row) → most ≡ one_more left → shows_names shown ≡ false → hits ≡ limited left found
-      → RowsIf request shown d hits rows
-      → IsGathered (with_limit left request) shown (d ∷ []) all rows (length hits) (is_over left (length found))
-  one-rows hits rows over lines cut rows_are =
-      let ended : (adds.rest ≡ []) ⊎ IsReached (one_more left) (length found) =
-      subst (λ m. (adds.rest ≡ []) ⊎ IsReached m (length found)) over adds.ended in
+  cut-lines : shows_names shown ≡ false → (limited left all ≡ limited left found) × (is_over left (length all) ≡ is_over left (length found))
+  cut-lines lines =
+      let ended = subst (λ m. (adds.rest ≡ []) ⊎ IsReached m (length found)) (asked-lines shown left lines) adds.ended in
       let parts = limited-cut left found adds.rest ended in
-      let is : limited left all ≡ hits = ap (λ hs. limited left hs) (sym found_first) ∙ (parts.0 ∙ sym cut) in
-      let named = subst (λ hs. AllByRecursion (λ f. f.name ≡ d.name) hs) is (All-limited (λ f. f.name ≡ d.name) left all each) in
+      (ap (λ hs. limited left hs) (sym found_first) ∙ parts.0, ap (λ hs. is_over left (length hs)) (sym found_first) ∙ parts.1)
+
+  one-lines : (rows : List Row) → shows_names shown ≡ false → AreRowsUpTo request shown d left found rows → Gives rows
+  one-lines rows lines are =
+      let cut = cut-lines lines in
+      let size : number ≡ length found = ap (λ b. if b then min (length found) 1 else length found) lines in
+      let counted : at_most left number ≡ length (limited left found) = ap (λ n. at_most left n) size ∙ sym (length-limited left found) in
       record {
-        rows = rows_by hits rows lines is named rows_are;
-        count = ap length (sym is) ∙ (length-limited left all ∙ ap (λ n. at_most left n) (sym (total-lines shown all lines)));
-        more =
-            sym (ap (λ n. is_over left n) (total-lines shown all lines) ∙ (ap (λ hs. is_over left (length hs)) (sym found_first) ∙ parts.1));
+        rows = λ documents bodies. rows_by documents bodies (limited left found) cut.0 counted;
+        count =
+            counted ∙ (ap length (sym cut.0) ∙ (length-limited left all ∙ ap (λ n. at_most left n) (sym (total-lines shown all lines))));
+        more = ap (λ n. is_over left n) size ∙ (sym cut.1 ∙ ap (λ n. is_over left n) (sym (total-lines shown all lines)));
       }
+    where
+      rows_by : (documents : List Document) → HaveBodies documents (d ∷ []) → (hits : List Hit) → limited left all ≡ hits
+          → at_most left number ≡ length hits → AreGathered (with_limit left request) shown documents all rows
+      rows_by documents bodies [] is none =
+          subst (λ rs. AreGathered (with_limit left request) shown documents all rs) (sym (are.none none))
+          (rows-none (with_limit left request) shown documents all lines is)
+      rows_by documents bodies (x ∷ xs) is some =
+          let named = subst (λ hs. AllByRecursion (λ f. f.name ≡ d.name) hs) is (All-limited (λ f. f.name ≡ d.name) left all each) in
+          let hits : shown_hits shown left found ≡ x ∷ xs =
+          ap (λ b. if b then found else limited left found) lines ∙ (sym (cut-lines lines).0 ∙ is) in
+          rows-one (with_limit left request) documents d.name d.held bodies.0 x xs named.0 named.1 shown all rows lines is
+          (rows_of-limit left request shown d.name d.held (x ∷ xs) rows
+          (subst (λ hs. AreRowsOf request shown d.name d.held hs rows) hits (are.some (λ none. let no : suc (length xs) ≡ 0 = sym some ∙ none in absurd (omega (arith, no))))))
 
   -- ---- its name
 
-  -- without a hit there is none
-  no_hits : found ≡ [] → (IsReached most 0 → ⊥) → all ≡ []
-  no_hits none few =
+  no_hits : shows_names shown ≡ true → found ≡ [] → all ≡ []
+  no_hits names none =
       let added : adds.added ≡ [] = sym adds.appended ∙ none in
-      let rest : adds.rest ≡ [] = elim adds.ended [ inl e ↦ e | inr full ↦ absurd (few (subst (λ hs. IsReached most (length hs)) none full)) ] in
+      let rest : adds.rest ≡ [] =
+      elim adds.ended [
+        | inl e ↦ e
+        | inr full ↦ absurd (asks-some shown left names (subst (λ hs. IsReached (asked shown left) (length hs)) none full))
+      ] in
       ap (λ hs. hs ++ adds.rest) added ∙ rest
 
-  name_of_all : (hits : List Hit) → all ≡ hits → AllByRecursion (λ f. f.name ≡ d.name) hits → (hits ≡ [] → ⊥) → names_of all ≡ d.name ∷ []
-  name_of_all [] is named some = absurd (some refl)
-  name_of_all (x ∷ xs) is named some = ap names_of is ∙ names-one d.name x xs named.0 named.1
+  name_of_all : (x : Hit) (xs : List Hit) → found ≡ x ∷ xs → names_of all ≡ d.name ∷ []
+  name_of_all x xs some =
+      let is : all ≡ x ∷ (xs ++ adds.rest) = sym found_first ∙ ap (λ hs. hs ++ adds.rest) some in
+      let named = subst (λ hs. AllByRecursion (λ f. f.name ≡ d.name) hs) is each in
+      ap names_of is ∙ names-one d.name x (xs ++ adds.rest) named.0 named.1
 
-  some_hits : (found ≡ [] → ⊥) → all ≡ [] → ⊥
-  some_hits some none = some (adds.appended ∙ front adds.added adds.rest none)
-    where
-      front : (xs ys : List Hit) → xs ++ ys ≡ [] → xs ≡ []
-      front [] ys e = refl
-      front (x ∷ xs) ys e = cc
-
-  pub one-name-none : shows_names shown ≡ true → found ≡ [] → (IsReached most 0 → ⊥) → IsGathered (with_limit left request) shown (d ∷ []) all [] 0 false
-  one-name-none names none few =
-      let is = no_hits none few in
-      subst (λ hits. IsGathered (with_limit left request) shown (d ∷ []) hits [] 0 false) (sym is) (record {
-        rows = λ documents bodies. nothing (with_limit left request) shown documents;
-        count = sym (ap (λ n. at_most left n) (no_total shown) ∙ zero_most left);
-        more = sym (ap (λ n. is_over left n) (no_total shown) ∙ zero_within left);
-      })
-
-  pub one-name-over : shows_names shown ≡ true → left ≡ Some 0 → (found ≡ [] → ⊥) → IsGathered (with_limit left request) shown (d ∷ []) all [] 0 true
-  one-name-over names end some =
-      let one : total shown all ≡ 1 = total-names shown all names ∙ ap length (name_of_all all refl each (some_hits some)) in
-      let least : at_most left (total shown all) ≡ 0 = ap (λ l. at_most l (total shown all)) end ∙ ap (λ n. at_most (Some 0) n) one in
-      record {
-        rows =
-            λ documents bodies.
-            names-none (with_limit left request) shown documents all names
-            (ap (λ l. limited l (names_of all)) end ∙ ap (λ ns. take 0 ns) (name_of_all all refl each (some_hits some)));
-        count = sym least;
-        more = sym (ap (λ l. is_over l (total shown all)) end ∙ ap (λ n. is_over (Some 0) n) one);
-      }
-
-  name_rows : (rows : List Row) (v : View) → AsksForName v most → AreRowsOf request v d.name d.held found rows → names_of all ≡ d.name ∷ []
+  name_rows : (rows : List Row) (v : View) → shows_names v ≡ true → (adds.rest ≡ []) ⊎ IsReached (asked v left) (length found)
+      → all_or_one left ≡ None → AreRowsOf request v d.name d.held found rows → names_of all ≡ d.name ∷ []
       → limited left (d.name ∷ []) ≡ d.name ∷ [] → (documents : List Document) → AreGathered (with_limit left request) v documents all rows
-  unfolding AreGathered AreRows AreRowsOf AsksForName
-  name_rows rows view.Names asks are one fits documents =
+  unfolding AreGathered AreRows AreRowsOf
+  name_rows rows view.Names names ended every are one fits documents =
       are ∙ ap (λ ns. map name ns) (sym (ap (λ ns. limited left ns) one ∙ fits))
-  name_rows rows view.Counts asks are one fits documents =
+  name_rows rows view.Counts names ended every are one fits documents =
       let rest : adds.rest ≡ [] =
-      elim (subst (λ m. (adds.rest ≡ []) ⊎ IsReached m (length found)) asks adds.ended) [ inl none ↦ none | inr never ↦ absurd never ] in
+      elim (subst (λ m. (adds.rest ≡ []) ⊎ IsReached m (length found)) every ended) [ inl none ↦ none | inr never ↦ absurd never ] in
       let whole : found ≡ all = sym (append-nil found) ∙ (ap (λ hs. found ++ hs) (sym rest) ∙ found_first) in
       let size : length found ≡ length (hits_in d.name all) = ap length (whole ∙ sym (hits_in-all d.name all each)) in
       are
       ∙ (ap (λ n. count d.name n ∷ []) size
       ∙ ap (λ ns. map (name_with_count all) ns) (sym (ap (λ ns. limited left ns) one ∙ fits)))
-  name_rows rows view.Lines asks are one fits documents = absurd asks
-  name_rows rows (view.Context n) asks are one fits documents = absurd asks
-  name_rows rows view.Column asks are one fits documents = absurd asks
-  name_rows rows view.Spans asks are one fits documents = absurd asks
-  name_rows rows view.Header asks are one fits documents = absurd asks
+  name_rows rows view.Lines names ended every are one fits documents = absurd (false≢true names)
+  name_rows rows (view.Context n) names ended every are one fits documents = absurd (false≢true names)
+  name_rows rows view.Column names ended every are one fits documents = absurd (false≢true names)
+  name_rows rows view.Spans names ended every are one fits documents = absurd (false≢true names)
+  name_rows rows view.Header names ended every are one fits documents = absurd (false≢true names)
 
-  room : (left : Option ℕ) → (left ≡ Some 0 → ⊥) → (limited left (d.name ∷ []) ≡ d.name ∷ []) × (at_most left 1 ≡ 1) × (is_over left 1 ≡ false)
-  room None some = (refl, refl, refl)
-  room (Some zero) some = absurd (some refl)
-  room (Some (suc n)) some = (take-one n, omega arith, grind (arith, nat_tests))
+  one-name : (rows : List Row) → shows_names shown ≡ true → AreRowsUpTo request shown d left found rows → Gives rows
+  one-name rows names are = go found refl
     where
-      take-one : (n : ℕ) → take (suc n) (d.name ∷ []) ≡ d.name ∷ []
-      take-one zero = refl
-      take-one (suc n) = refl
+      numbered_as : (n : ℕ) → number_of shown n ≡ min n 1
+      numbered_as n = ap (λ b. if b then min n 1 else n) names
 
-  pub one-name-some : (rows : List Row) → AsksForName shown most → shows_names shown ≡ true → (left ≡ Some 0 → ⊥) → (found ≡ [] → ⊥)
-      → AreRowsOf request shown d.name d.held found rows → IsGathered (with_limit left request) shown (d ∷ []) all rows 1 false
-  one-name-some rows asks names fits some are =
-      let one = name_of_all all refl each (some_hits some) in
-      let size : total shown all ≡ 1 = total-names shown all names ∙ ap length one in
-      let places = room left fits in
-      record {
-        rows = λ documents bodies. name_rows rows shown asks are one places.0 documents;
-        count = sym (ap (λ n. at_most left n) size ∙ places.1);
-        more = sym (ap (λ n. is_over left n) size ∙ places.2);
+      gives : number ≡ total shown all → ((documents : List Document) → AreGathered (with_limit left request) shown documents all rows) → Gives rows
+      gives size rows_are = record {
+        rows = λ documents bodies. rows_are documents;
+        count = ap (λ n. at_most left n) size;
+        more = ap (λ n. is_over left n) size;
       }
 
-pub asks-names : (v : View) (most : Option ℕ) → AsksForName v most → (shows_names v ≡ true) × (IsReached most 0 → ⊥)
-unfolding AsksForName
-asks-names view.Names most asks = (refl, λ h. let low : 1 ≤ 0 = subst (λ m. IsReached m 0) asks h in absurd (omega arith))
-asks-names view.Counts most asks = (refl, λ h. subst (λ m. IsReached m 0) asks h)
-asks-names view.Lines most asks = absurd asks
-asks-names (view.Context n) most asks = absurd asks
-asks-names view.Column most asks = absurd asks
-asks-names view.Spans most asks = absurd asks
-asks-names view.Header most asks = absurd asks
+      shown_rows : {limit : Option ℕ} → names_of all ≡ d.name ∷ [] → number ≡ 1 → left ≡ limit → all_or_one limit ≡ None → at_most limit 1 ≡ 1
+          → limited limit (d.name ∷ []) ≡ d.name ∷ [] → (documents : List Document) → AreGathered (with_limit left request) shown documents all rows
+      shown_rows one size is every most fits documents =
+          let counted : at_most left number ≡ 1 = ap (λ n. at_most left n) size ∙ (ap (λ l. at_most l 1) is ∙ most) in
+          let hits : shown_hits shown left found ≡ found = ap (λ b. if b then found else limited left found) names in
+          name_rows rows shown names adds.ended (ap all_or_one is ∙ every)
+          (subst (λ hs. AreRowsOf request shown d.name d.held hs rows) hits
+          (are.some (λ none. let no : 1 ≡ 0 = sym counted ∙ none in absurd (omega (arith, no))))) one
+          (ap (λ l. limited l (d.name ∷ [])) is ∙ fits) documents
+
+      some_rows : names_of all ≡ d.name ∷ [] → number ≡ 1 → (limit : Option ℕ) → left ≡ limit → (documents : List Document)
+          → AreGathered (with_limit left request) shown documents all rows
+      some_rows one size (Some zero) is documents =
+          let none : at_most left number ≡ 0 = ap (λ n. at_most left n) size ∙ ap (λ l. at_most l 1) is in
+          subst (λ rs. AreGathered (with_limit left request) shown documents all rs) (sym (are.none none))
+          (names-none (with_limit left request) shown documents all names
+          (ap (λ l. limited l (names_of all)) is ∙ ap (λ ns. take 0 ns) one))
+      some_rows one size None is documents = shown_rows one size is refl refl refl documents
+      some_rows one size (Some (suc n)) is documents = shown_rows one size is refl (omega arith) (take-one n) documents
+        where
+          take-one : (n : ℕ) → take (suc n) (d.name ∷ []) ≡ d.name ∷ []
+          take-one zero = refl
+          take-one (suc n) = refl
+
+      go : (hits : List Hit) → found ≡ hits → Gives rows
+      go [] is =
+          let none = no_hits names is in
+          let size : number ≡ 0 = ap (λ hs. number_of shown (length hs)) is ∙ numbered_as 0 in
+          let no_rows : rows ≡ [] = are.none (ap (λ n. at_most left n) size ∙ zero_most left) in
+          gives (size ∙ sym (ap (total shown) none ∙ no_total shown)) (λ documents.
+          subst (λ rs. AreGathered (with_limit left request) shown documents all rs) (sym no_rows)
+          (subst (λ hs. AreGathered (with_limit left request) shown documents hs []) (sym none) (nothing (with_limit left request) shown documents)))
+      go (x ∷ xs) is =
+          let one = name_of_all x xs is in
+          let size : number ≡ 1 = ap (λ hs. number_of shown (length hs)) is ∙ (numbered_as (suc (length xs)) ∙ omega arith) in
+          gives (size ∙ sym (total-names shown all names ∙ ap length one)) (λ documents. some_rows one size left refl documents)
+
+  pub one-document : (rows : List Row) → AreRowsUpTo request shown d left found rows → Gives rows
+  one-document rows are = go (shows_names shown) refl
+    where
+      go : (names : Bool) → shows_names shown ≡ names → Gives rows
+      go true e = one-name rows e are
+      go false e = one-lines rows e are
+
+  pub cut-alike : shows_names shown ≡ false → limited left all ≡ limited left found
+  cut-alike lines = (cut-lines lines).0
 
 -- ---- from document to document
 
@@ -399,89 +423,22 @@ module _ (wanted : Wanted) (documents : List SharedDocument) (old now new : Gath
 
 -- ---- what a step adds
 
-module _ (wanted : Wanted) (d : SharedDocument) (old new : Gathered) (left most : Option ℕ) (found : List Hit) (lines : wanted.lines ≡ false)
-    (fewer : old.more ≡ false) (is_left : left ≡ left_from wanted.limit old.count)
-    (adds : AddsUpTo most (IsAsked (test_of wanted.prepared.now.line)) (lines_of_taken d) [] found) where
-  abbrev pub own : Request
-  own = request_of wanted.prepared.now
-
-  abbrev pub shown_view : View
-  shown_view = wanted.prepared.now.view
-
-  each_named : AllByRecursion (λ f. f.name ≡ d.name) (adds.added ++ adds.rest)
-  each_named = named-one (test_of wanted.prepared.now.line) d (adds.added ++ adds.rest) adds.selected
-
-  step : (rows : List Row) (c : ℕ) (more : Bool) → IsGathered (with_limit left own) shown_view (d ∷ []) (adds.added ++ adds.rest) rows c more
-      → new.more ≡ more → new.text.items ≡ old.text.items ++ text_of_rows wanted.prepared.now.zero rows → new.rows ≡ old.rows + length rows
-      → new.count ≡ old.count + c → GathersMore wanted (d ∷ []) old new
-  step rows c more one is_more text row_count counted =
-      let all = adds.added ++ adds.rest in
-      let viewed : IsGathered (with_limit left own) (view_of wanted) (d ∷ []) all rows c more =
-      subst (λ v. IsGathered (with_limit left own) v (d ∷ []) all rows c more) (sym (rows_viewed wanted lines)) one in
-      let limited_to : IsGathered (with_limit (left_from wanted.limit old.count) (request_for wanted)) (view_of wanted) (d ∷ []) all rows c more =
-      subst (λ l. IsGathered (with_limit l own) (view_of wanted) (d ∷ []) all rows c more) is_left viewed in
-      gathers-one wanted d old new all rows c lines fewer adds.selected
-      (subst (λ m. IsGathered (with_limit (left_from wanted.limit old.count) (request_for wanted)) (view_of wanted) (d ∷ []) all rows c m) (sym is_more)
-      limited_to) text row_count counted
-
-  unchanged : new.text.items ≡ old.text.items → new.rows ≡ old.rows → new.count ≡ old.count
-      → (new.text.items ≡ old.text.items ++ []) × (new.rows ≡ old.rows + 0) × (new.count ≡ old.count + 0)
-  unchanged text rows counted = (
-    text ∙ sym (append-nil old.text.items),
-    rows ∙ (let same : old.rows ≡ old.rows + 0 = omega arith in same),
-    counted ∙ (let same : old.count ≡ old.count + 0 = omega arith in same),
-  )
-
-  pub gathers-rows : (shown : List Hit) (rows : List Row) → shows_names shown_view ≡ false → most ≡ one_more left → shown ≡ limited left found
-      → RowsIf own shown_view d shown rows → new.more ≡ is_over left (length found)
-      → new.text.items ≡ old.text.items ++ text_of_rows wanted.prepared.now.zero rows → new.rows ≡ old.rows + length rows
-      → new.count ≡ old.count + length shown → GathersMore wanted (d ∷ []) old new
-  gathers-rows shown rows names over cut are more text row_count counted =
-      step rows (length shown) (is_over left (length found))
-      (one-rows own shown_view d (IsAsked (test_of wanted.prepared.now.line)) left most found adds each_named shown rows over names cut are) more text
-      row_count counted
-
-  -- no row of no hit
-  pub gathers-no_rows : (shown : List Hit) → shows_names shown_view ≡ false → most ≡ one_more left → shown ≡ limited left found → length shown ≡ 0
-      → new.more ≡ is_over left (length found) → new.text.items ≡ old.text.items → new.rows ≡ old.rows → new.count ≡ old.count
-      → GathersMore wanted (d ∷ []) old new
-  gathers-no_rows shown names over cut none more text row_count counted =
-      let same = unchanged text row_count counted in
-      let empty = nil_from_length shown none in
-      gathers-rows shown [] names over cut (subst (λ hits. RowsIf own shown_view d hits []) (sym empty) refl) more same.0 same.1
-      (same.2 ∙ ap (λ n. old.count + n) (sym none))
-
-  pub gathers-no_name : (asked : Option ℕ) → AsksForName shown_view asked → found ≡ [] → (IsReached most 0 → ⊥) → new.more ≡ false
-      → new.text.items ≡ old.text.items → new.rows ≡ old.rows → new.count ≡ old.count → GathersMore wanted (d ∷ []) old new
-  gathers-no_name asked asks none few more text row_count counted =
-      let same = unchanged text row_count counted in
-      step [] 0 false
-      (one-name-none own shown_view d (IsAsked (test_of wanted.prepared.now.line)) left most found adds each_named (asks-names shown_view asked asks).0
-      none few) more same.0 same.1 same.2
-
-  pub gathers-name_over : (asked : Option ℕ) → AsksForName shown_view asked → left ≡ Some 0 → (found ≡ [] → ⊥) → new.more ≡ true
-      → new.text.items ≡ old.text.items → new.rows ≡ old.rows → new.count ≡ old.count → GathersMore wanted (d ∷ []) old new
-  gathers-name_over asked asks end some more text row_count counted =
-      let same = unchanged text row_count counted in
-      step [] 0 true
-      (one-name-over own shown_view d (IsAsked (test_of wanted.prepared.now.line)) left most found adds each_named (asks-names shown_view asked asks).0
-      end some) more same.0 same.1 same.2
-
-  pub gathers-name : (rows : List Row) → AsksForName shown_view most → (left ≡ Some 0 → ⊥) → (found ≡ [] → ⊥)
-      → AreRowsOf own shown_view d.name d.held found rows → new.more ≡ false
-      → new.text.items ≡ old.text.items ++ text_of_rows wanted.prepared.now.zero rows → new.rows ≡ old.rows + length rows
-      → new.count ≡ old.count + 1 → GathersMore wanted (d ∷ []) old new
-  gathers-name rows asks fits some are more text row_count counted =
-      step rows 1 false
-      (one-name-some own shown_view d (IsAsked (test_of wanted.prepared.now.line)) left most found adds each_named rows asks
-      (asks-names shown_view most asks).0 fits some are) more text row_count counted
-
-  -- the limit is used up, and it is looked for one hit
-  pub gathers-last : (asked : Option ℕ) → AsksForName shown_view asked → left ≡ Some 0 → most ≡ Some 1 → (empty : Bool)
-      → MatchBool empty (found ≡ []) (0 < length found) → new.more ≡ not empty → new.text.items ≡ old.text.items → new.rows ≡ old.rows
-      → new.count ≡ old.count → GathersMore wanted (d ∷ []) old new
-  gathers-last asked asks end one true none more text row_count counted =
-      gathers-no_name asked asks none (λ h. let low : 1 ≤ 0 = subst (λ m. IsReached m 0) one h in absurd (omega arith)) more text row_count counted
-  gathers-last asked asks end one false some more text row_count counted =
-      gathers-name_over asked asks end (λ none. let size : length found ≡ 0 = ap length none in absurd (omega (arith, size, some))) more text row_count
-      counted
+pub gathers-document : (wanted : Wanted) (d : SharedDocument) (old new : Gathered) (left : Option ℕ) (found : List Hit) (rows : List Row)
+    → old.more ≡ false → left ≡ left_from wanted.limit old.count
+    → AddsUpTo (asked wanted.view left) (IsAsked (test_of wanted.prepared.now.line)) (lines_of_taken d) [] found
+    → AreRowsUpTo (request_of wanted.prepared.now) wanted.view d left found rows
+    → new.hits ≡ kept_of wanted.view (limited wanted.limit (old.hits ++ found))
+    → new.text.items ≡ old.text.items ++ text_of_rows wanted.prepared.now.zero (formed_of wanted.view rows) → new.rows ≡ old.rows + length rows
+    → new.count ≡ old.count + at_most left (number_of wanted.view (length found)) → new.more ≡ is_over left (number_of wanted.view (length found))
+    → GathersMore wanted (d ∷ []) old new
+gathers-document wanted d old new left found rows fewer is_left adds are kept text row_count counted more =
+    let own = request_of wanted.prepared.now in
+    let test = test_of wanted.prepared.now.line in
+    let all = adds.added ++ adds.rest in
+    let c = at_most left (number_of wanted.view (length found)) in
+    let each = named-one test d all adds.selected in
+    let gives = one-document own wanted.view d (IsAsked test) left found adds each rows are in
+    gathers-one wanted d old new found all rows c fewer adds.selected
+    (λ lines. subst (λ l. limited l all ≡ limited l found) is_left (cut-alike own wanted.view d (IsAsked test) left found adds each lines))
+    (subst (λ l. IsGathered (with_limit l own) wanted.view (d ∷ []) all rows c new.more) is_left
+    (subst (λ m. IsGathered (with_limit left own) wanted.view (d ∷ []) all rows c m) (sym more) gives)) kept text row_count counted

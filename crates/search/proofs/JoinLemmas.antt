@@ -1,10 +1,11 @@
 -- What is shown of documents, and of more documents after them, with no gap before the first stretch of lines.
-use Rattle.std.proofs.Common.{◌≡◌, ℕ, zero, suc, ◌+◌, ◌-◌, ◌≤◌, ◌<◌, ◌⊎◌, ◌==◌, Bool, true, false, Option, List, [], ◌∷◌, ◌++◌, map, length, take, drop, refl, sym, ◌∙◌, ap, subst, arith, append_assoc}
-use Rattle.std.specs.Prelude.{filter, flat_map, if◌then◌else◌}
+use Rattle.std.proofs.Common.{◌≡◌, ℕ, zero, suc, ◌+◌, ◌-◌, ◌≤◌, ◌<◌, ◌==◌, Bool, true, false, Option, Some, List, [], ◌∷◌, ◌++◌, map, length, take, drop, refl, sym, ◌∙◌, ap, subst, arith, append_assoc}
+use Rattle.std.specs.Prelude.{filter, flat_map, if◌then◌else◌, slice_get}
 use Rattle.std.specs.List.{AllByRecursion}
 use Rattle.std.specs.Str.{bytes_eq}
 use Rattle.std.proofs.lemmas.Bool.Decides.{nat_tests}
-use Rattle.std.proofs.lemmas.List.{length-append, take-append-drop}
+use Rattle.std.proofs.Math.Seq.{drop-nil}
+use Rattle.std.proofs.lemmas.List.{append-nil, drop-append-le, length-append, take-append-drop}
 use Rattle.index.specs.Documents.{Document}
 use Rattle.index.specs.Shared.{documents_shared}
 use Rattle.index.specs.declared.document.SharedDocument.{SharedDocument}
@@ -12,7 +13,7 @@ use Rattle.index.proofs.DocumentLemmas.{bytes_eq-refl, bytes_eq-sym}
 use Rattle.lines.specs.Lines.{lines_of}
 use Rattle.request.specs.declared.options.View.{View}
 use Rattle.request.specs.declared.options.View.TheVariants as view
-use Rattle.search.specs.Private.Gathered.{AreGathered, HasGap, BeginsWithGap, no_rows, rows_after, Gathers, HaveBodies, HaveOwnNames, IsGathered, Joins, all_stretches, cut_gap, gap_rows, left_from, request_for, shows_context, text_held, trimmed, view_of, with_limit}
+use Rattle.search.specs.Private.Gathered.{AreGathered, HasGap, BeginsWithGap, no_rows, rows_after, Gathers, HaveBodies, HaveOwnNames, IsGathered, Joins, all_stretches, cut_gap, gap_rows, left_from, request_for, shows_context, shows_lines, trimmed, with_limit}
 use Rattle.views.specs.Parts.{text_of_parts}
 use Rattle.prepare.specs.Prepared.{request_of}
 use Rattle.prepare.specs.Request.{Request}
@@ -26,7 +27,8 @@ use Rattle.views.specs.Found.{numbered, lines_of_document}
 use Rattle.search.specs.Rows.{AreRows, body_of, is_over, hits_in, limited, names_of}
 use Rattle.views.specs.View.{Row, gap, hit, is_near, rows_from, stretches}
 use Rattle.search.proofs.GatherLemmas.{found-apart, gathered-append, gathered-over, gathered-within, own-left, own-right}
-use Rattle.search.proofs.GathersLemmas.{case-true, case-false, found-both, lines_viewed, selection_of, text-rows-append}
+use Rattle.search.proofs.GathersLemmas.{found-both, kept-lines, kept-others, lines_viewed, selection_of, text-rows-append}
+use Rattle.views.proofs.PartLemmas.{text-one_more, text-split}
 
 -- ---- rows of stretches
 
@@ -149,30 +151,45 @@ module _ (wanted : Wanted) where
   abbrev pub zero_byte : Bool
   zero_byte = wanted.prepared.now.zero
 
-  lines_are : (documents : List SharedDocument) (hits : List Hit) (rows : List Row) (c : ℕ) (more : Bool) → wanted.lines ≡ true → HaveOwnNames documents
-      → IsGathered (request_for wanted) (view_of wanted) documents hits rows c more → rows ≡ map hit (limited wanted.limit hits)
+  lines_are : (documents : List SharedDocument) (hits : List Hit) (rows : List Row) (c : ℕ) (more : Bool) → wanted.view ≡ view.Lines → HaveOwnNames documents
+      → IsGathered (request_for wanted) wanted.view documents hits rows c more → rows ≡ map hit (limited wanted.limit hits)
   unfolding AreGathered AreRows
   lines_are documents hits rows c more e own is =
-      subst (λ v. AreGathered (request_for wanted) v (documents_shared documents) hits rows) (lines_viewed wanted e)
+      subst (λ v. AreGathered (request_for wanted) v (documents_shared documents) hits rows) e
       (is.rows (documents_shared documents) (own-bodies documents own))
 
-  held-text : (documents : List SharedDocument) (g : Gathered) → HaveOwnNames documents → (is : Gathers wanted documents g)
-      → text_held wanted g ≡ text_of_rows zero_byte is.rows
-  held-text documents g own is = go wanted.lines refl
+  -- the text of what is gathered, and then that of the lines that are kept
+  text-whole : (documents : List SharedDocument) (g : Gathered) (from : ℕ) → HaveOwnNames documents → (is : Gathers wanted documents g)
+      → from ≡ (cut_gap (shows_context wanted.view) g.rows).0
+      → drop from g.text.items ++ text_of_hits zero_byte g.hits ≡ text_of_rows zero_byte (trimmed wanted.view is.rows)
+  text-whole documents g from own is cut = go (shows_lines wanted.view) refl
     where
-      go : (lines : Bool) → wanted.lines ≡ lines → (if lines then text_of_hits zero_byte g.hits else g.text.items) ≡ text_of_rows zero_byte is.rows
+      go : (b : Bool) → shows_lines wanted.view ≡ b
+          → drop from g.text.items ++ text_of_hits zero_byte g.hits ≡ text_of_rows zero_byte (trimmed wanted.view is.rows)
       go true e =
-          ap (λ hs. text_of_hits zero_byte hs)
-          (case-true wanted.lines (g.hits ≡ limited wanted.limit is.hits) (g.text.items ≡ text_of_rows zero_byte is.rows) e is.held)
+          let lines = lines_viewed wanted.view e in
+          let none : g.text.items ≡ [] = is.text ∙ ap (λ b. text_of_rows zero_byte (if b then [] else is.rows)) e in
+          ap (λ t. drop from t ++ text_of_hits zero_byte g.hits) none
+          ∙ (ap (λ t. t ++ text_of_hits zero_byte g.hits) (drop-nil from)
+          ∙ (ap (λ hs. text_of_hits zero_byte hs) (is.kept ∙ kept-lines wanted.view (limited wanted.limit is.hits) e)
           ∙ (sym (text-lines zero_byte (limited wanted.limit is.hits))
-          ∙ ap (λ rs. text_of_rows zero_byte rs) (sym (lines_are documents is.hits is.rows g.count g.more e own is.is_gathered)))
-      go false e = case-false wanted.lines (g.hits ≡ limited wanted.limit is.hits) (g.text.items ≡ text_of_rows zero_byte is.rows) e is.held
+          ∙ (ap (λ rs. text_of_rows zero_byte rs) (sym (lines_are documents is.hits is.rows g.count g.more lines own is.is_gathered))
+          ∙ ap (λ v. text_of_rows zero_byte (trimmed v is.rows)) (sym lines)))))
+      go false e =
+          let formed : g.text.items ≡ text_of_rows zero_byte is.rows =
+          is.text ∙ ap (λ b. text_of_rows zero_byte (if b then [] else is.rows)) e in
+          ap (λ hs. drop from g.text.items ++ text_of_hits zero_byte hs) (is.kept ∙ kept-others wanted.view (limited wanted.limit is.hits) e)
+          ∙ (append-nil (drop from g.text.items)
+          ∙ (ap (λ t. drop from t) formed
+          ∙ (ap (λ n. drop n (text_of_rows zero_byte is.rows)) cut
+          ∙ (cut-text zero_byte wanted.view is.rows g.rows (sym is.row_count)
+          (context-begins (request_for wanted) wanted.view documents is.hits is.rows g.count g.more own is.is_gathered)).0)))
 
   pub joins-one : (documents : List SharedDocument) (g : Gathered) (j : Joined) (from : ℕ) (part : List ℕ) → HaveOwnNames documents → Gathers wanted documents g
-      → (from, j.rows) ≡ cut_gap (shows_context (view_of wanted)) g.rows → part ≡ drop from (text_held wanted g) → text_of_parts j.parts.items ≡ part
+      → (from, j.rows) ≡ cut_gap (shows_context wanted.view) g.rows → part ≡ drop from g.text.items ++ text_of_hits zero_byte g.hits → text_of_parts j.parts.items ≡ part
       → j.count ≡ g.count → j.more ≡ g.more → Joins wanted wanted.limit documents j
   joins-one documents g j from part own is cut text parts counted more =
-      let shown = view_of wanted in
+      let shown = wanted.view in
       let both = cut-text zero_byte shown is.rows g.rows (sym is.row_count)
       (context-begins (request_for wanted) shown documents is.hits is.rows g.count g.more own is.is_gathered) in
       record {
@@ -182,11 +199,7 @@ module _ (wanted : Wanted) where
         is_gathered =
             subst (λ n. IsGathered (request_for wanted) shown documents is.hits is.rows n j.more) (sym counted)
             (subst (λ m. IsGathered (request_for wanted) shown documents is.hits is.rows g.count m) (sym more) is.is_gathered);
-        text =
-            parts
-            ∙ (text
-            ∙ (ap (λ t. drop from t) (held-text documents g own is)
-            ∙ (ap (λ n. drop n (text_of_rows zero_byte is.rows)) (ap (λ (p : ℕ × ℕ). p.0) cut) ∙ both.0)));
+        text = parts ∙ (text ∙ text-whole documents g from own is (ap (λ (p : ℕ × ℕ). p.0) cut));
         row_count = ap (λ (p : ℕ × ℕ). p.1) cut ∙ both.1;
       }
 
@@ -201,9 +214,9 @@ module _ (wanted : Wanted) where
         found = found-both wanted front back is.hits rest.0 is.found rest.1;
         rows = is.rows;
         is_gathered =
-            subst (λ m. IsGathered request (view_of wanted) (front ++ back) (is.hits ++ rest.0) is.rows j.count m) (sym more)
-            (gathered-over request (view_of wanted) front back is.hits rest.0 apart is.rows [] j.count 0
-            (subst (λ m. IsGathered request (view_of wanted) front is.hits is.rows j.count m) more is.is_gathered));
+            subst (λ m. IsGathered request wanted.view (front ++ back) (is.hits ++ rest.0) is.rows j.count m) (sym more)
+            (gathered-over request wanted.view front back is.hits rest.0 apart is.rows [] j.count 0
+            (subst (λ m. IsGathered request wanted.view front is.hits is.rows j.count m) more is.is_gathered));
         text = is.text;
         row_count = is.row_count;
       }
@@ -217,22 +230,22 @@ module _ (wanted : Wanted) where
         found = is.found;
         rows = is.rows;
         is_gathered =
-            subst (λ m. IsGathered (with_limit other request) (view_of wanted) documents is.hits is.rows j.count m) (sym more)
-            (gathered-within request other (view_of wanted) documents is.hits is.rows j.count fits
-            (subst (λ m. IsGathered request (view_of wanted) documents is.hits is.rows j.count m) more is.is_gathered));
+            subst (λ m. IsGathered (with_limit other request) wanted.view documents is.hits is.rows j.count m) (sym more)
+            (gathered-within request other wanted.view documents is.hits is.rows j.count fits
+            (subst (λ m. IsGathered request wanted.view documents is.hits is.rows j.count m) more is.is_gathered));
         text = is.text;
         row_count = is.row_count;
       }
 
   pub joins-both : (limit : Option ℕ) (front back : List SharedDocument) (f b j : Joined) → HaveOwnNames (front ++ back) → f.more ≡ false
       → Joins wanted limit front f → Joins wanted (left_from limit f.count) back b
-      → text_of_parts j.parts.items ≡ (text_of_parts f.parts.items ++ text_of_rows zero_byte (gap_rows (shows_context (view_of wanted)) f.rows b.rows))
+      → text_of_parts j.parts.items ≡ (text_of_parts f.parts.items ++ text_of_rows zero_byte (gap_rows (shows_context wanted.view) f.rows b.rows))
       ++ text_of_parts b.parts.items
-      → j.rows ≡ f.rows + length (gap_rows (shows_context (view_of wanted)) f.rows b.rows) + b.rows → j.count ≡ f.count + b.count → j.more ≡ b.more
+      → j.rows ≡ f.rows + length (gap_rows (shows_context wanted.view) f.rows b.rows) + b.rows → j.count ≡ f.count + b.count → j.more ≡ b.more
       → Joins wanted limit (front ++ back) j
   joins-both limit front back f b j own fewer one two text rows counted more =
       let request = with_limit limit (request_of wanted.prepared.now) in
-      let shown = view_of wanted in
+      let shown = wanted.view in
       let test = test_of wanted.prepared.now.line in
       let apart = found-apart test front back one.hits two.hits own one.found two.found in
       let middle = gap_rows (shows_context shown) f.rows b.rows in
@@ -274,7 +287,7 @@ module _ (wanted : Wanted) where
 
   -- a limit that was set for the gathering alone
   pub joins-for : (set limit : Option ℕ) (documents : List SharedDocument) (j : Joined)
-      → Joins (record { prepared = wanted.prepared; lines = wanted.lines; limit = set }) limit documents j → Joins wanted limit documents j
+      → Joins (record { prepared = wanted.prepared; view = wanted.view; limit = set }) limit documents j → Joins wanted limit documents j
   joins-for set limit documents j is = record {
     hits = is.hits;
     found = is.found;
@@ -290,8 +303,26 @@ pub both-sides : (documents front back : List SharedDocument) (at : ℕ) → fro
 both-sides documents front back at first others =
     ap (λ ds. ds ++ back) first ∙ (ap (λ ds. take at documents ++ ds) others ∙ take-append-drop at documents)
 
-pub no-gap : (wanted : Wanted) → wanted.lines ≡ true → (rows : ℕ) → (cut_gap (shows_context (view_of wanted)) rows).0 ≡ 0
-no-gap wanted lines rows = ap (λ v. (cut_gap (shows_context v) rows).0) (lines_viewed wanted lines)
+-- the text of a part that begins with what was there, and goes on with the first of these lines
+pub part-whole : (byte : Bool) (hits : List Hit) (at from low : ℕ) (old new : List ℕ) → low ≤ length old → drop low old ≡ drop from old
+    → new ≡ old ++ text_of_hits byte (take at hits)
+    → drop low new ++ text_of_hits byte (drop at hits) ≡ drop from old ++ text_of_hits byte hits
+part-whole byte hits at from low old new inside same grown =
+    ap (λ t. drop low t ++ text_of_hits byte (drop at hits)) grown
+    ∙ (ap (λ t. t ++ text_of_hits byte (drop at hits)) (drop-append-le low old (text_of_hits byte (take at hits)) inside)
+    ∙ (append_assoc (drop low old) (text_of_hits byte (take at hits)) (text_of_hits byte (drop at hits))
+    ∙ (ap (λ t. t ++ (text_of_hits byte (take at hits) ++ text_of_hits byte (drop at hits))) same
+    ∙ ap (λ t. drop from old ++ t) (sym (text-split byte hits (take at hits) (drop at hits) at refl refl)))))
+
+-- the text of one more of these lines, behind what was there
+pub one-more_line : (byte : Bool) (hits : List Hit) (at : ℕ) (next : Hit) (old now new : List ℕ) → Some next ≡ slice_get hits at
+    → now ≡ old ++ text_of_hits byte (take at hits) → new ≡ now ++ text_of_hit byte next → new ≡ old ++ text_of_hits byte (take (at + 1) hits)
+one-more_line byte hits at next old now new there so_far grown =
+    let front = text_of_hits byte (take at hits) in
+    grown
+    ∙ (ap (λ t. t ++ text_of_hit byte next) so_far
+    ∙ (append_assoc old front (text_of_hit byte next)
+    ∙ ap (λ t. old ++ t) (text-one_more byte hits at next front (front ++ text_of_hit byte next) there refl refl)))
 
 -- ---- gaps
 

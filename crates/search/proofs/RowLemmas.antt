@@ -1,29 +1,25 @@
 -- The rows of one document.
-use Rattle.std.proofs.Common.{◌≡◌, ℕ, suc, ◌+◌, inl, inr, Bool, List, [], ◌∷◌, ◌++◌}
+use Rattle.std.proofs.Common.{◌≡◌, ℕ, suc, ◌+◌, inl, inr, Bool, true, false, Some, None, List, [], ◌∷◌, ◌++◌}
 use Rattle.std.proofs.Common.{length, map, refl, sym, ◌∙◌, ap, subst, append_assoc}
-use Rattle.std.specs.Prelude.{is_some}
-use Rattle.std.proofs.lemmas.List.{append-nil}
+use Rattle.std.specs.Prelude.{is_some, if◌then◌else◌}
+use Rattle.std.proofs.lemmas.List.{append-nil, length-map}
 use Rattle.spans.specs.declared.span.Span.{Span}
-use Rattle.ere.specs.Tree.{Tree}
+use Rattle.ere.specs.Tree.{Tree, form}
 use Rattle.spans.specs.FirstSpan.{AreSpans, HasNoSpan, IsFirstSpan}
 use Rattle.prepare.specs.Request.{Request}
 use Rattle.views.specs.Found.{Hit}
-use Rattle.views.specs.Text.{text_of_hit, text_of_hits, text_of_row, text_of_rows, text_of_span, text_of_spans}
+use Rattle.views.specs.Text.{text_of_row, text_of_rows, text_of_span, text_of_spans}
 use Rattle.views.specs.View.{Row, hit, at_column, stretches}
 use Rattle.search.specs.Rows.{RowsOf, done, more, shown_tree, IsColumnRow, IsSpansRow}
 use Rattle.views.specs.View.{name as name_row, count as count_row}
 use Rattle.request.specs.declared.options.View.{View}
 use Rattle.request.specs.declared.options.View.TheVariants as view
 use Rattle.spans.specs.FirstStart.{HasNoStart, IsFirstStart}
+use Rattle.search.specs.Private.Gathered.{formed_of}
 use Rattle.search.specs.Private.Rows.{AreRowsOf}
+use Rattle.prepare.specs.Prepared.{inside, request_of}
+use Rattle.prepare.specs.declared.pattern.Prepared.{Prepared}
 use Rattle.views.proofs.RowLemmas.{text_of_both, text_of_one}
-
--- ---- texts
-
-pub text_of_shown : (zero : Bool) (hits : List Hit) → text_of_rows zero (map hit hits) ≡ text_of_hits zero hits
-unfolding text_of_row
-text_of_shown zero [] = refl
-text_of_shown zero (first ∷ hits) = ap (λ t. text_of_hit zero first ++ t) (text_of_shown zero hits)
 
 -- ---- a row for each hit
 
@@ -149,6 +145,13 @@ shown_text old first second new place matches colon text end first_is second_is 
     ∙ ((λ i. ((old ++ place) ++ matches) ++ (colon_is i ++ (text ++ (end_is i ++ []))))
     ∙ parts old place matches (58 ∷ []) text (10 ∷ [])))
 
+pub words_are : (prepared : Prepared) → prepared.words ≡ is_some (request_of prepared).word
+words_are prepared = go prepared.words
+  where
+    go : (words : Bool) → words ≡ is_some (if words then Some (inside (form prepared.line.tree)) else None)
+    go true = refl
+    go false = refl
+
 -- the column of a line's first match, and a line without a match, which has none
 pub has_column : (request : Request) (found : Hit) (whole_words : Bool) (start : ℕ) → whole_words ≡ is_some request.word
     → IsFirstStart found.text (shown_tree request) whole_words start → IsColumnRow request found (at_column (start + 1) found)
@@ -163,12 +166,13 @@ no_column request found whole_words same none = inr (subst (λ w. HasNoStart fou
 
 module _ (request : Request) (of body : List ℕ) (hits : List Hit) (zero : Bool) (old new : List ℕ) (n : ℕ) where
   abbrev pub Shows : View → Type 0
-  Shows shown = (rows : List Row) × AreRowsOf request shown of body hits rows × (n ≡ length rows) × (new ≡ old ++ text_of_rows zero rows)
+  Shows shown = (rows : List Row) × AreRowsOf request shown of body hits rows × (n ≡ length rows) × (new ≡ old ++ text_of_rows zero (formed_of shown rows))
 
   module _ (shown : View) where
-    pub as_lines : shown ≡ view.Lines → (n ≡ length (map hit hits)) × (new ≡ old ++ text_of_rows zero (map hit hits)) → Shows shown
+    pub as_lines : shown ≡ view.Lines → n ≡ length hits → new ≡ old → Shows shown
     unfolding AreRowsOf
-    as_lines is made = subst (λ v. Shows v) (sym is) (map hit hits, refl, made.0, made.1)
+    as_lines is many same =
+        subst (λ v. Shows v) (sym is) (map hit hits, refl, many ∙ sym (length-map hits (λ (h : Hit). hit h)), same ∙ sym (append-nil old))
 
     pub as_context : (most : ℕ) → shown ≡ view.Context most
         → ((rows : List Row) × (rows ≡ stretches most hits of body) × (n ≡ length rows) × (new ≡ old ++ text_of_rows zero rows)) → Shows shown

@@ -1,6 +1,7 @@
 -- The first span of a line, and where its first match begins: by starts that a finder gives, and by halving.
 use Rattle.std.proofs.Common.{◌≡◌, ℕ, ◌+◌, ◌-◌, ◌≤◌, ◌<◌, Bool, true, false, List, length, Option, Some, None, IfSome, MatchOption, unwrap_or}
 use Rattle.std.proofs.Common.{inl, inr, sym, subst, ◌∙◌, arith}
+use Rattle.std.specs.Prelude.{MatchBool}
 use Rattle.std.proofs.lemmas.Bool.{cases_lt, false≢true}
 use Rattle.ere.specs.Tree.{Tree}
 use Rattle.engine.specs.Patterns.{IsFinderOf}
@@ -13,7 +14,7 @@ use Rattle.spans.specs.declared.span.Span.{Span as SpanValue}
 use Rattle.prepare.specs.Prepared.{request_of}
 use Rattle.search.specs.Private.Seekers.{CanShow, IsLeastStart, IsTried, Seeks, shows_matches}
 use Rattle.search.specs.Rows.{shown_tree}
-use Rattle.prepare.specs.declared.pattern.Prepared.{Prepared}
+use Rattle.search.specs.declared.gathered.Wanted.{Wanted}
 use Rattle.search.specs.declared.seeker.Seeker.{Seeker as SeekerValue}
 use Rattle.search.specs.declared.seeker.Tried.{Tried as TriedValue}
 use Rattle.search.specs.declared.seeker.Tried.TheVariants.{Span, From}
@@ -26,29 +27,35 @@ some_of A B found x is m = subst (λ o. MatchOption o A B) is m
 pub none_of : {X : Type 0} (A : Type 0) (B : X → Type 0) (found : Option X) → found ≡ None → MatchOption found A B → A
 none_of A B found is m = subst (λ o. MatchOption o A B) is m
 
+pub case-true : (b : Bool) (P Q : Type 0) → b ≡ true → MatchBool b P Q → P
+case-true b P Q e h = subst (λ x. MatchBool x P Q) e h
+
+pub case-false : (b : Bool) (P Q : Type 0) → b ≡ false → MatchBool b P Q → Q
+case-false b P Q e h = subst (λ x. MatchBool x P Q) e h
+
 -- ---- a seeker
 
 pub finder_in : (tree : Tree) (seeker : SeekerValue) (finder : Finder) → seeker.finder ≡ Some finder → Seeks tree seeker → IsFinderOf tree finder
 finder_in tree seeker finder is seeks = subst (λ o. IfSome o (IsFinderOf tree)) is seeks.finder
 
-pub can_show_none : (prepared : Prepared) → shows_matches prepared.view ≡ false → CanShow prepared None
+pub can_show_none : (wanted : Wanted) → shows_matches wanted.view ≡ false → CanShow wanted None
 unfolding CanShow
-can_show_none prepared none = none
+can_show_none wanted none = none
 
-pub can_show : (prepared : Prepared) (seeker : SeekerValue) (tree : Tree) → tree ≡ shown_tree (request_of prepared) → Seeks tree seeker
-    → CanShow prepared (Some seeker)
+pub can_show : (wanted : Wanted) (seeker : SeekerValue) (tree : Tree) → tree ≡ shown_tree (request_of wanted.prepared.now) → Seeks tree seeker
+    → CanShow wanted (Some seeker)
 unfolding CanShow
-can_show prepared seeker tree same seeks = subst (λ t. Seeks t seeker) same seeks
+can_show wanted seeker tree same seeks = subst (λ t. Seeks t seeker) same seeks
 
-pub seeks_shown : (prepared : Prepared) (found : Option SeekerValue) (seeker : SeekerValue) → found ≡ Some seeker → CanShow prepared found
-    → Seeks (shown_tree (request_of prepared)) seeker
+pub seeks_shown : (wanted : Wanted) (found : Option SeekerValue) (seeker : SeekerValue) → found ≡ Some seeker → CanShow wanted found
+    → Seeks (shown_tree (request_of wanted.prepared.now)) seeker
 unfolding CanShow
-seeks_shown prepared found seeker is shows = subst (λ o. CanShow prepared o) is shows
+seeks_shown wanted found seeker is shows = subst (λ o. CanShow wanted o) is shows
 
 -- If columns or spans are shown, there is a seeker.
-pub has_seeker : (prepared : Prepared) (found : Option SeekerValue) → shows_matches prepared.view ≡ true → found ≡ None → CanShow prepared found → ⊥
+pub has_seeker : (wanted : Wanted) (found : Option SeekerValue) → shows_matches wanted.view ≡ true → found ≡ None → CanShow wanted found → ⊥
 unfolding CanShow
-has_seeker prepared found matches is shows = false≢true (sym (subst (λ o. CanShow prepared o) is shows) ∙ matches)
+has_seeker wanted found matches is shows = false≢true (sym (subst (λ o. CanShow wanted o) is shows) ∙ matches)
 
 -- ---- where whole words are not asked for, by a finder alone
 

@@ -1,7 +1,8 @@
 -- Places and hits that are added until there are as many as are looked for.
-use Rattle.std.proofs.Common.{◌≡◌, ℕ, suc, ◌⊎◌, inl, inr, Bool, true, false, Option, List, [], ◌∷◌, ◌++◌, map, length, refl, sym, ◌∙◌, ap, subst, append_assoc}
+use Rattle.std.proofs.Common.{◌≡◌, ℕ, suc, ◌⊎◌, inl, inr, Bool, true, false, Option, Some, None, List, [], ◌∷◌, ◌++◌, map, length, length-drop, drop, refl, sym, ◌∙◌, ap, subst, arith, append_assoc}
 use Rattle.std.specs.Prelude.{MatchBool}
 use Rattle.std.specs.List.{AllByRecursion}
+use Rattle.std.proofs.Math.Seq.{drop-append_seam}
 use Rattle.std.proofs.lemmas.List.{append-nil, map-append}
 use Rattle.std.proofs.lemmas.List.Elements.{All-append}
 use Rattle.ere.specs.Language.{ContainsMatch}
@@ -11,7 +12,8 @@ use Rattle.engine.proofs.LineLemmas.{NoFeed}
 use Rattle.views.specs.declared.places.Place.{Place}
 use Rattle.prepare.specs.Pattern.{Test, Passes}
 use Rattle.views.specs.Places.{hit_in}
-use Rattle.search.specs.Private.Added.{AddsPlaces, AddsPlacesUpTo, IsPlaceIn, IsReached}
+use Rattle.search.specs.Private.Added.{AddsPlaces, AddsPlacesUpTo, AddsUpTo, IsPlaceIn, IsReached}
+use Rattle.search.specs.Private.Gathered.{beyond}
 use Rattle.views.specs.Found.{Hit}
 use Rattle.search.specs.Selects.{Selects, done, keep, skip, IsAsked}
 use Rattle.views.specs.Found.{found, numbered}
@@ -119,3 +121,24 @@ module _ (most : Option ℕ) (full : Bool) (count other : ℕ) (is : MatchBool f
 
   pub not_reached : full ≡ false → IsReached most other → ⊥
   not_reached e h = subst (λ b. MatchBool b (IsReached most count) (IsReached most count → ⊥)) e is (subst (λ n. IsReached most n) (sym same) h)
+
+-- what is added to what is there, by itself
+pub adds-own : {Has : Hit → Type 0} {all old new : List Hit} (most : Option ℕ) (before : ℕ) → before ≡ length old → AddsUpTo (beyond before most) Has all old new
+    → AddsUpTo most Has all [] (drop before new)
+adds-own {old = old} {new = new} most before is adds = record {
+  added = adds.added;
+  appended =
+      ap (λ hits. drop before hits) adds.appended
+      ∙ (ap (λ n. drop n (old ++ adds.added)) is ∙ drop-append_seam old adds.added);
+  rest = adds.rest;
+  selected = adds.selected;
+  ended = elim adds.ended [ inl none ↦ inl none | inr full ↦ inr (fewer most full) ];
+}
+  where
+    fewer : (most : Option ℕ) → IsReached (beyond before most) (length new) → IsReached most (length (drop before new))
+    fewer None full = full
+    fewer (Some n) full = omega (arith, length-drop before new, full)
+
+pub both-parts : (old new added : List Hit) (before : ℕ) → before ≡ length old → new ≡ old ++ added → old ++ drop before new ≡ new
+both-parts old new added before is grown =
+    ap (λ hits. old ++ hits) (ap (λ hits. drop before hits) grown ∙ (ap (λ n. drop n (old ++ added)) is ∙ drop-append_seam old added)) ∙ sym grown

@@ -6,4 +6,3 @@ pub mod Added
 pub mod Pieces
 pub mod Rows
 pub mod Gathered
-pub mod Ahead

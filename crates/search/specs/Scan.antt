@@ -1,5 +1,5 @@
 -- The lines that a search finds, and when an answer is one of a state.
-use Rattle.std.specs.Prelude.{◌≡◌, ℕ, ◌-◌, ◌<◌, List, length, Some, slice_get, filter, All, Contains, ◌↔◌}
+use Rattle.std.specs.Prelude.{◌≡◌, ◌-◌, ◌<◌, List, length, Some, slice_get, filter, All, Contains, ◌↔◌}
 use Rattle.std.specs.Ordering.{nat_cmp, then_cmp, on}
 use Rattle.std.specs.Cmp.Lexicographic.{slice_cmp}
 use Rattle.std.specs.List.Sorted.{IsStrictlySortedBy}

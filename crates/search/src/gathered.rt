@@ -1,14 +1,14 @@
 //! What is shown of documents, gathered document after document.
 
 ghost use Rattle.std.specs.List.Sorted.{IsStrictlyIncreasing};
-ghost use Rattle.std.specs.Prelude.{All, map, ◌≡◌, ◌+◌, ◌≤◌, ◌∷◌, [], true, false, Some, length, take, IfOk, IfErr, OnOk, MatchBool};
+ghost use Rattle.std.specs.Prelude.{All, map, ◌≡◌, ◌+◌, ◌≤◌, ◌∷◌, [], false, length, take, drop, IfOk, IfErr, OnOk};
 ghost use Rattle.ere.specs.Tree.{form};
 ghost use Rattle.search.specs.CalledOff.{IsCalledOffOnlyIf};
 ghost use Rattle.search.specs.declared.unanswered.Unanswered.TheVariants.{OutOfMemory};
-ghost use Rattle.search.specs.Private.Gathered.{Gathers, GathersMore, HaveOwnNames, AddsRows, AsksForName, left_from, one_more};
+ghost use Rattle.search.specs.Private.Gathered.{Gathers, GathersMore, HaveOwnNames, AddsRows, all_or_one, asked, beyond, kept_of, left_from, number_of, one_more, shown_hits, shows_lines};
 ghost use Rattle.search.specs.Private.Seekers.{CanShow, IsOneLine};
 ghost use Rattle.search.specs.Private.Ways.{AreFew, Finds};
-ghost use Rattle.search.specs.Rows.{is_over, limited};
+ghost use Rattle.search.specs.Rows.{at_most, is_over, limited};
 ghost use Rattle.views.specs.View.{shows_names};
 
 use crate::matching::{few_documents, scan_document};
@@ -21,15 +21,15 @@ use index::SharedDocument;
 use prepare::Prepared;
 use request::View;
 use std::alloc::Global;
-use views::Places;
+use views::{Lines, Places};
 
 /// What is to be gathered.
 #[derive(Clone, Copy)]
 pub(crate) struct Wanted<'p> {
-    /// What is searched for, and the view.
+    /// What is searched for.
     pub(crate) prepared: &'p Prepared,
-    /// Whether lines alone are shown, whatever the view is.
-    pub(crate) lines: bool,
+    /// What is shown of lines. For an answer it is `View::Lines`, whatever the view that is asked for.
+    pub(crate) view: View,
     /// The most lines, or names, that are shown.
     pub(crate) limit: Option<u32>,
 }
@@ -96,9 +96,8 @@ fn gather_few<W: Watch>(
     }
     let mut way = Way::Matcher;
     let none = None;
-    let mut seeker = shown_seeker(alloc, wanted.prepared, &none)?;
+    let mut seeker = shown_seeker(alloc, wanted, &none)?;
     gather_by(
-        alloc,
         wanted,
         &mut way,
         &mut seeker,
@@ -129,23 +128,14 @@ fn gather_compiled<W: Watch>(
     }
     let compiled = compile(alloc, &wanted.prepared.line.tree);
     let mut way = way_by(alloc, &wanted.prepared.line.tree, &compiled)?;
-    let word = compile_word(alloc, wanted.prepared);
+    let word = compile_word(alloc, wanted);
     let shown = compiled_of_shown(wanted.prepared, &compiled, &word);
-    let mut seeker = shown_seeker(alloc, wanted.prepared, shown)?;
-    gather_by(
-        alloc,
-        wanted,
-        &mut way,
-        &mut seeker,
-        documents,
-        gathered,
-        watch,
-    )
+    let mut seeker = shown_seeker(alloc, wanted, shown)?;
+    gather_by(wanted, &mut way, &mut seeker, documents, gathered, watch)
 }
 
 /// Gathers from these documents, by this way and with this seeker.
 fn gather_by<W: Watch>(
-    alloc: Global,
     wanted: &Wanted<'_>,
     way: &mut Way<'_>,
     seeker: &mut Option<Seeker<'_>>,
@@ -154,7 +144,7 @@ fn gather_by<W: Watch>(
     watch: &mut W,
 ) -> Result<(), Unanswered>
     requires way { Finds (form wanted.now.prepared.now.line.tree) way.old }
-    requires seeker { CanShow wanted.now.prepared.now seeker.old }
+    requires seeker { CanShow wanted.now seeker.old }
     ensures gathers { OnOk result (GathersMore wanted.now documents.now gathered.old gathered.new) }
     ensures called_off { IfErr result (IsCalledOffOnlyIf (W.has_said_no watch.new)) }
 {
@@ -163,14 +153,13 @@ fn gather_by<W: Watch>(
             return Ok(());
         }
         ask(watch)?;
-        gather_one(alloc, wanted, way, seeker, document, gathered, watch)?;
+        gather_one(wanted, way, seeker, document, gathered, watch)?;
     }
     Ok(())
 }
 
-/// Gathers from one document.
+/// Gathers from one document: looks for as many of its hits as say what is shown of it, and adds its rows.
 fn gather_one<W: Watch>(
-    alloc: Global,
     wanted: &Wanted<'_>,
     way: &mut Way<'_>,
     seeker: &mut Option<Seeker<'_>>,
@@ -179,48 +168,16 @@ fn gather_one<W: Watch>(
     watch: &mut W,
 ) -> Result<(), Unanswered>
     requires way { Finds (form wanted.now.prepared.now.line.tree) way.old }
-    requires seeker { CanShow wanted.now.prepared.now seeker.old }
+    requires seeker { CanShow wanted.now seeker.old }
     requires more { gathered.old.more ≡ false }
     ensures way { Finds (form wanted.now.prepared.now.line.tree) way.new }
-    ensures seeker { CanShow wanted.now.prepared.now seeker.new }
+    ensures seeker { CanShow wanted.now seeker.new }
     ensures gathers { OnOk result (GathersMore wanted.now (document.now ∷ []) gathered.old gathered.new) }
     ensures called_off { IfErr result (IsCalledOffOnlyIf (W.has_said_no watch.new)) }
 {
-    if wanted.lines {
-        return gather_lines(wanted, way, document, gathered, watch);
-    }
-    match wanted.prepared.view {
-        View::Names => gather_name(
-            alloc,
-            wanted,
-            way,
-            seeker,
-            document,
-            Some(1),
-            gathered,
-            watch,
-        ),
-        View::Counts => gather_name(alloc, wanted, way, seeker, document, None, gathered, watch),
-        _ => gather_rows(alloc, wanted, way, seeker, document, gathered, watch),
-    }
-}
-
-/// Gathers the lines of one document.
-fn gather_lines<W: Watch>(
-    wanted: &Wanted<'_>,
-    way: &mut Way<'_>,
-    document: &SharedDocument,
-    gathered: &mut Gathered,
-    watch: &mut W,
-) -> Result<(), Unanswered>
-    requires way { Finds (form wanted.now.prepared.now.line.tree) way.old }
-    requires more { gathered.old.more ≡ false }
-    requires lines { wanted.now.lines ≡ true }
-    ensures way { Finds (form wanted.now.prepared.now.line.tree) way.new }
-    ensures gathers { OnOk result (GathersMore wanted.now (document.now ∷ []) gathered.old gathered.new) }
-    ensures called_off { IfErr result (IsCalledOffOnlyIf (W.has_said_no watch.new)) }
-{
-    let most = one_over(wanted.limit);
+    let left = left_of(wanted.limit, gathered.count);
+    let before = gathered.hits.lines().len();
+    let most = beyond(before, asked(wanted.view, left))?;
     scan_document(
         &wanted.prepared.line,
         way,
@@ -229,138 +186,128 @@ fn gather_lines<W: Watch>(
         &mut gathered.hits,
         watch,
     )?;
-    gathered.more = cut(wanted.limit, &mut gathered.hits);
-    gathered.count = gathered.hits.lines().len();
-    gathered.rows = gathered.count;
+    add_rows(wanted, left, before, document, seeker, gathered, watch)?;
+    keep(wanted, &mut gathered.hits);
     Ok(())
 }
 
-/// Gathers the rows of one document's hits.
-fn gather_rows<W: Watch>(
-    alloc: Global,
+/// How many hits of a document say what is shown of it, where so many lines, or names, are left of the limit. `None` means all.
+fn asked(view: View, left: Option<u32>) -> Option<usize>
+    ensures { result ≡ asked view left }
+{
+    match view {
+        View::Names => Some(1),
+        View::Counts => all_or_one(left),
+        _ => one_over(left),
+    }
+}
+
+/// How many hits of a document say how many it has, or, where nothing is left of the limit, that it has one.
+fn all_or_one(left: Option<u32>) -> Option<usize>
+    ensures { result ≡ all_or_one left }
+{
+    match left {
+        Some(0) => Some(1),
+        _ => None,
+    }
+}
+
+/// So many more than there are before. An `Err` is `OutOfMemory`: no memory holds them.
+fn beyond(before: usize, most: Option<usize>) -> Result<Option<usize>, Unanswered>
+    ensures sum { IfOk result (λ sum. sum ≡ beyond before most) }
+    ensures memory { IfErr result (λ e. e ≡ OutOfMemory) }
+{
+    match most {
+        Some(most) => Ok(Some(sum_of(before, most)?)),
+        None => Ok(None),
+    }
+}
+
+/// Adds the rows of one document, of which the hits behind the first `before` were found, up to what is left of the limit.
+fn add_rows<W: Watch>(
     wanted: &Wanted<'_>,
-    way: &mut Way<'_>,
-    seeker: &mut Option<Seeker<'_>>,
+    left: Option<u32>,
+    before: usize,
     document: &SharedDocument,
+    seeker: &mut Option<Seeker<'_>>,
     gathered: &mut Gathered,
     watch: &mut W,
 ) -> Result<(), Unanswered>
-    requires way { Finds (form wanted.now.prepared.now.line.tree) way.old }
-    requires seeker { CanShow wanted.now.prepared.now seeker.old }
-    requires more { gathered.old.more ≡ false }
-    requires rows { wanted.now.lines ≡ false }
-    requires view { shows_names wanted.now.prepared.now.view ≡ false }
-    ensures way { Finds (form wanted.now.prepared.now.line.tree) way.new }
-    ensures seeker { CanShow wanted.now.prepared.now seeker.new }
-    ensures gathers { OnOk result (GathersMore wanted.now (document.now ∷ []) gathered.old gathered.new) }
+    requires before { before ≤ length gathered.old.hits }
+    requires rising { IsStrictlyIncreasing (map (λ h. h.line) (shown_hits wanted.now.view left (drop before gathered.old.hits))) }
+    requires lines { All (λ h. IsOneLine h.text) (shown_hits wanted.now.view left (drop before gathered.old.hits)) }
+    requires seeker { CanShow wanted.now seeker.old }
+    ensures seeker { CanShow wanted.now seeker.new }
+    ensures rows { OnOk result (AddsRows wanted.now left document.now (drop before gathered.old.hits) gathered.old gathered.new) }
     ensures called_off { IfErr result (IsCalledOffOnlyIf (W.has_said_no watch.new)) }
 {
-    let left = left_of(wanted.limit, gathered.count);
-    let mut hits = Places::new(alloc);
-    scan_document(
-        &wanted.prepared.line,
-        way,
-        document,
-        one_over(left),
-        &mut hits,
-        watch,
-    )?;
-    gathered.more = cut(left, &mut hits);
-    let count = hits.lines().len();
+    let (_, found) = gathered.hits.lines().split_at(before);
+    let number = number_of(wanted.view, found.len());
+    gathered.more = is_over(left, number);
+    let count = at_most(left, number);
     if count == 0 {
         return Ok(());
     }
-    add_rows(
-        wanted.prepared,
-        document,
-        &hits,
-        count,
-        seeker,
-        gathered,
-        watch,
-    )
-}
-
-/// Gathers the name of one document, if it has a hit. `most` hits of it are looked for, if its name can still be shown.
-fn gather_name<W: Watch>(
-    alloc: Global,
-    wanted: &Wanted<'_>,
-    way: &mut Way<'_>,
-    seeker: &mut Option<Seeker<'_>>,
-    document: &SharedDocument,
-    most: Option<usize>,
-    gathered: &mut Gathered,
-    watch: &mut W,
-) -> Result<(), Unanswered>
-    requires way { Finds (form wanted.now.prepared.now.line.tree) way.old }
-    requires seeker { CanShow wanted.now.prepared.now seeker.old }
-    requires more { gathered.old.more ≡ false }
-    requires rows { wanted.now.lines ≡ false }
-    requires view { AsksForName wanted.now.prepared.now.view most }
-    ensures way { Finds (form wanted.now.prepared.now.line.tree) way.new }
-    ensures seeker { CanShow wanted.now.prepared.now seeker.new }
-    ensures gathers { OnOk result (GathersMore wanted.now (document.now ∷ []) gathered.old gathered.new) }
-    ensures called_off { IfErr result (IsCalledOffOnlyIf (W.has_said_no watch.new)) }
-{
-    let left = left_of(wanted.limit, gathered.count);
-    let mut hits = Places::new(alloc);
-    if is_used_up(left) {
-        scan_document(
-            &wanted.prepared.line,
-            way,
-            document,
-            Some(1),
-            &mut hits,
-            watch,
-        )?;
-        gathered.more = !hits.lines().is_empty();
-        return Ok(());
-    }
-    scan_document(&wanted.prepared.line, way, document, most, &mut hits, watch)?;
-    if hits.lines().is_empty() {
-        return Ok(());
-    }
-    add_rows(wanted.prepared, document, &hits, 1, seeker, gathered, watch)
-}
-
-/// Whether nothing is left of a limit.
-fn is_used_up(left: Option<u32>) -> bool
-    ensures { MatchBool result (left ≡ Some 0) (left ≡ Some 0 → ⊥) }
-{
-    match left {
-        Some(most) => most == 0,
-        None => false,
-    }
-}
-
-/// Adds the rows of one document, of which these hits are shown, and counts so many more lines, or names.
-fn add_rows<W: Watch>(
-    prepared: &Prepared,
-    document: &SharedDocument,
-    hits: &Places,
-    count: usize,
-    seeker: &mut Option<Seeker<'_>>,
-    gathered: &mut Gathered,
-    watch: &mut W,
-) -> Result<(), Unanswered>
-    requires rising { IsStrictlyIncreasing (map (λ h. h.line) hits.now) }
-    requires lines { All (λ h. IsOneLine h.text) hits.now }
-    requires seeker { CanShow prepared.now seeker.old }
-    ensures seeker { CanShow prepared.now seeker.new }
-    ensures rows { OnOk result (AddsRows prepared.now document.now hits.now count gathered.old gathered.new) }
-    ensures called_off { IfErr result (IsCalledOffOnlyIf (W.has_said_no watch.new)) }
-{
-    let rows = append_rows(
-        &mut gathered.text,
-        prepared,
-        document,
-        &hits.lines(),
-        seeker,
-        watch,
-    )?;
+    let hits = shown_hits(wanted.view, left, &found);
+    let rows = append_rows(&mut gathered.text, wanted, document, &hits, seeker, watch)?;
     gathered.rows = sum_of(gathered.rows, rows)?;
     gathered.count = sum_of(gathered.count, count)?;
     Ok(())
+}
+
+/// How many lines, or names, there are to be shown of a document with so many hits.
+fn number_of(view: View, hits: usize) -> usize
+    ensures { result ≡ number_of view hits }
+{
+    if shows_names(view) {
+        return hits.min(1);
+    }
+    hits
+}
+
+/// The hits of a document whose rows are shown, where so many lines, or names, are left of the limit.
+fn shown_hits<'a>(view: View, left: Option<u32>, found: &Lines<'a>) -> Lines<'a>
+    ensures { result ≡ shown_hits view left found.now }
+{
+    if shows_names(view) {
+        return found.again();
+    }
+    let (first, _) = found.split_at(at_most(left, found.len()));
+    first
+}
+
+/// Keeps the hits up to the limit where lines alone are shown, and otherwise none.
+fn keep(wanted: &Wanted<'_>, hits: &mut Places)
+    ensures { hits.new ≡ kept_of wanted.now.view (limited wanted.now.limit hits.old) }
+{
+    if !shows_lines(wanted.view) {
+        hits.places.clear();
+        hits.documents.clear();
+        return;
+    }
+    if let Some(most) = wanted.limit {
+        hits.truncate(most as usize);
+    }
+}
+
+/// Whether names are shown, and not lines.
+fn shows_names(view: View) -> bool
+    ensures { result ≡ shows_names view }
+{
+    match view {
+        View::Names | View::Counts => true,
+        _ => false,
+    }
+}
+
+/// Whether lines alone are shown.
+fn shows_lines(view: View) -> bool
+    ensures { result ≡ shows_lines view }
+{
+    match view {
+        View::Lines => true,
+        _ => false,
+    }
 }
 
 /// The sum. An `Err` is `OutOfMemory`: the sum is too great. No memory holds so many rows.
@@ -374,18 +321,23 @@ pub(crate) fn sum_of(left: usize, right: usize) -> Result<usize, Unanswered>
     }
 }
 
-/// Cuts the hits to the limit, and returns whether there were more.
-fn cut(limit: Option<u32>, hits: &mut Places) -> bool
-    ensures more { result ≡ is_over limit (length hits.old) }
-    ensures hits { hits.new ≡ limited limit hits.old }
+/// Whether there are more than the limit.
+pub(crate) fn is_over(limit: Option<u32>, count: usize) -> bool
+    ensures { result ≡ is_over limit count }
 {
     match limit {
-        Some(most) => {
-            let is_over = hits.lines().len() > most as usize;
-            hits.truncate(most as usize);
-            is_over
-        }
+        Some(most) => count > most as usize,
         None => false,
+    }
+}
+
+/// So many, but no more than the limit.
+fn at_most(limit: Option<u32>, count: usize) -> usize
+    ensures { result ≡ at_most limit count }
+{
+    match limit {
+        Some(most) => count.min(most as usize),
+        None => count,
     }
 }
 

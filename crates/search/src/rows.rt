@@ -12,9 +12,11 @@ ghost use Rattle.prepare.specs.Prepared.{request_of};
 ghost use Rattle.views.specs.Text.{text_of_place, text_of_row, text_of_rows, text_of_span, text_of_spans};
 ghost use Rattle.views.specs.View.{Row, hit, at_column, near, name, count, stretches};
 ghost use Rattle.search.specs.Rows.{IsColumnRow, IsSpansRow, RowsOf, shown_tree};
-ghost use Rattle.search.specs.Private.Rows.{AreRowsOf};
+ghost use Rattle.search.specs.Private.Gathered.{formed_of};
+ghost use Rattle.search.specs.Private.Rows.{AreRowsOf, IsMatchRow};
 ghost use Rattle.search.specs.Private.Seekers.{CanShow, IsOneLine, Seeks};
 
+use crate::gathered::Wanted;
 use crate::seeker::Seeker;
 use crate::unanswered::Unanswered;
 use crate::watch::Watch;
@@ -23,18 +25,18 @@ use prepare::Prepared;
 use request::View;
 use std::alloc::AllocError;
 use views::{
-    Hit, Lines, append_all, append_at_column, append_count, append_hit, append_lines, append_name,
-    append_place, append_span, append_stretches,
+    Hit, Lines, append_all, append_at_column, append_count, append_hit, append_name, append_place,
+    append_span, append_stretches,
 };
 
-/// Appends the rows of one document, of which these hits are shown; returns how many rows they are. `seeker` finds the
-/// matches within lines, if these are shown. `watch` is asked whether the answer is wanted before each pass over a line.
+/// Appends the rows of one document, of which these hits are shown, but where lines alone are shown, whose text is formed later;
+/// returns how many rows they are. `seeker` finds the matches within lines, if these are shown. `watch` is asked whether the answer is wanted before each pass over a line.
 ///
 /// `CalledOff` is returned once `watch` says that the answer is not wanted, and `OutOfMemory` means that memory ran
 /// out. After an `Err`, `out` has any bytes.
 pub(crate) fn append_rows<W: Watch>(
     out: &mut Vec<u8>,
-    prepared: &Prepared,
+    wanted: &Wanted<'_>,
     document: &SharedDocument,
     hits: &Lines<'_>,
     seeker: &mut Option<Seeker<'_>>,
@@ -42,22 +44,24 @@ pub(crate) fn append_rows<W: Watch>(
 ) -> Result<usize, Unanswered>
     requires rising { IsStrictlyIncreasing (map (λ h. h.line) hits.now) }
     requires lines { All (λ h. IsOneLine h.text) hits.now }
-    requires seeker { CanShow prepared.now seeker.old }
-    ensures seeker { CanShow prepared.now seeker.new }
-    ensures rows { IfOk result (λ n. (rows : List Row) × AreRowsOf (request_of prepared.now) prepared.now.view document.now.name document.now.held hits.now rows
-        × (n ≡ length rows) × (out.new.items ≡ out.old.items ++ text_of_rows prepared.now.zero rows)) }
+    requires seeker { CanShow wanted.now seeker.old }
+    ensures seeker { CanShow wanted.now seeker.new }
+    ensures rows { IfOk result (λ n. (rows : List Row)
+        × AreRowsOf (request_of wanted.now.prepared.now) wanted.now.view document.now.name document.now.held hits.now rows
+        × (n ≡ length rows) × (out.new.items ≡ out.old.items ++ text_of_rows wanted.now.prepared.now.zero (formed_of wanted.now.view rows))) }
     ensures called_off { IfErr result (IsCalledOffOnlyIf (W.has_said_no watch.new)) }
 {
-    match prepared.view {
-        View::Lines => Ok(append_hits(out, prepared.zero, hits)?),
+    let prepared = wanted.prepared;
+    match wanted.view {
+        View::Lines => Ok(hits.len()),
         View::Context(most) => Ok(append_stretches(out, prepared.zero, most, document, hits)?),
         View::Column => match seeker {
-            Some(seeker) => append_columns(out, prepared, hits, seeker, watch),
+            Some(seeker) => append_matched(out, prepared, false, hits, seeker, watch),
             // There is one.
             None => Ok(0),
         },
         View::Spans => match seeker {
-            Some(seeker) => append_spanned(out, prepared, hits, seeker, watch),
+            Some(seeker) => append_matched(out, prepared, true, hits, seeker, watch),
             // There is one.
             None => Ok(0),
         },
@@ -67,30 +71,13 @@ pub(crate) fn append_rows<W: Watch>(
     }
 }
 
-/// Appends a line for each hit.
-fn append_hits(out: &mut Vec<u8>, zero: bool, hits: &Lines<'_>) -> Result<usize, AllocError>
-    ensures { IfOk result (λ n. (n ≡ length (map hit hits.now)) × (out.new.items ≡ out.old.items ++ text_of_rows zero (map hit hits.now))) }
-{
-    append_lines(out, zero, hits.again())?;
-    Ok(hits.len())
-}
-
 // ---- matches within lines
 
-/// Whether the matches that are shown must be whole words.
-fn shows_words(prepared: &Prepared) -> bool
-    ensures { result ≡ is_some (request_of prepared.now).word }
-{
-    match &prepared.word {
-        Some(_) => true,
-        None => false,
-    }
-}
-
-/// Appends each hit with the column of its first match.
-fn append_columns<W: Watch>(
+/// Appends each hit with the spans of its matches if `spans`, and otherwise with the column of the first one.
+fn append_matched<W: Watch>(
     out: &mut Vec<u8>,
     prepared: &Prepared,
+    spans: bool,
     hits: &Lines<'_>,
     seeker: &mut Seeker<'_>,
     watch: &mut W,
@@ -98,14 +85,37 @@ fn append_columns<W: Watch>(
     requires lines { All (λ h. IsOneLine h.text) hits.now }
     requires seeks { Seeks (shown_tree (request_of prepared.now)) seeker.old }
     ensures seeks { Seeks (shown_tree (request_of prepared.now)) seeker.new }
-    ensures rows { IfOk result (λ n. (rows : List Row) × RowsOf (IsColumnRow (request_of prepared.now)) hits.now rows
+    ensures rows { IfOk result (λ n. (rows : List Row) × RowsOf (IsMatchRow spans (request_of prepared.now)) hits.now rows
         × (n ≡ length rows) × (out.new.items ≡ out.old.items ++ text_of_rows prepared.now.zero rows)) }
     ensures called_off { IfErr result (IsCalledOffOnlyIf (W.has_said_no watch.new)) }
 {
     for found in hits.again() {
-        append_column(out, prepared, seeker, &found, watch)?;
+        append_match(out, prepared, spans, seeker, &found, watch)?;
     }
     Ok(hits.len())
+}
+
+/// Appends a hit with the spans of its matches if `spans`, and otherwise with the column of the first one.
+fn append_match<W: Watch>(
+    out: &mut Vec<u8>,
+    prepared: &Prepared,
+    spans: bool,
+    seeker: &mut Seeker<'_>,
+    found: &Hit<'_>,
+    watch: &mut W,
+) -> Result<(), Unanswered>
+    requires one_line { IsOneLine found.now.text.now }
+    requires seeks { Seeks (shown_tree (request_of prepared.now)) seeker.old }
+    ensures seeks { Seeks (shown_tree (request_of prepared.now)) seeker.new }
+    ensures row { OnOk result ((row : Row) × IsMatchRow spans (request_of prepared.now) (hit_of found.now) row
+        × (out.new.items ≡ out.old.items ++ text_of_row prepared.now.zero row)) }
+    ensures called_off { IfErr result (IsCalledOffOnlyIf (W.has_said_no watch.new)) }
+{
+    if spans {
+        append_with_spans(out, prepared, seeker, found, watch)
+    } else {
+        append_column(out, prepared, seeker, found, watch)
+    }
 }
 
 /// Appends a hit with the column of its first match, if it has one.
@@ -123,31 +133,10 @@ fn append_column<W: Watch>(
         × (out.new.items ≡ out.old.items ++ text_of_row prepared.now.zero row)) }
     ensures called_off { IfErr result (IsCalledOffOnlyIf (W.has_said_no watch.new)) }
 {
-    match seeker.first_start(found.text, shows_words(prepared), watch)? {
+    match seeker.first_start(found.text, prepared.words, watch)? {
         Some(start) => Ok(append_at_column(out, prepared.zero, start + 1, found)?),
         None => Ok(append_hit(out, prepared.zero, found)?),
     }
-}
-
-/// Appends each hit with the spans of its matches.
-fn append_spanned<W: Watch>(
-    out: &mut Vec<u8>,
-    prepared: &Prepared,
-    hits: &Lines<'_>,
-    seeker: &mut Seeker<'_>,
-    watch: &mut W,
-) -> Result<usize, Unanswered>
-    requires lines { All (λ h. IsOneLine h.text) hits.now }
-    requires seeks { Seeks (shown_tree (request_of prepared.now)) seeker.old }
-    ensures seeks { Seeks (shown_tree (request_of prepared.now)) seeker.new }
-    ensures rows { IfOk result (λ n. (rows : List Row) × RowsOf (IsSpansRow (request_of prepared.now)) hits.now rows
-        × (n ≡ length rows) × (out.new.items ≡ out.old.items ++ text_of_rows prepared.now.zero rows)) }
-    ensures called_off { IfErr result (IsCalledOffOnlyIf (W.has_said_no watch.new)) }
-{
-    for found in hits.again() {
-        append_with_spans(out, prepared, seeker, &found, watch)?;
-    }
-    Ok(hits.len())
 }
 
 /// Appends a hit with the spans of its matches.
@@ -187,7 +176,7 @@ fn append_spans<W: Watch>(
         × (out.new.items ≡ out.old.items ++ text_of_spans spans)) }
     ensures called_off { IfErr result (IsCalledOffOnlyIf (W.has_said_no watch.new)) }
 {
-    let whole_words = shows_words(prepared);
+    let whole_words = prepared.words;
     let mut from = 0;
     let mut before = b"".as_slice();
     loop {

@@ -13,12 +13,13 @@ ghost use Rattle.prepare.specs.Prepared.{request_of};
 ghost use Rattle.search.specs.Private.Seekers.{CanShow, IsLeastStart, IsOneLine, IsTried, shows_matches};
 ghost use Rattle.search.specs.Rows.{shown_tree};
 
+use crate::gathered::Wanted;
 use crate::unanswered::Unanswered;
 use crate::watch::{Watch, ask};
 use crate::way::compile;
 use engine::{Compiled, Finder};
 use ere::{Ere, is_word_byte};
-use prepare::{Prepared, Test};
+use prepare::Prepared;
 use request::View;
 use simulation::Simulation;
 use spans::Span;
@@ -161,35 +162,29 @@ impl<'p> Seeker<'p> {
 
 // ---- the seeker of what is shown
 
-/// The pattern of the tree without the edges of words, compiled, if its matches are shown. `None` also means that its tables
-/// would be too large, or that memory ran out.
-pub(crate) fn compile_word(alloc: Global, prepared: &Prepared) -> Option<Compiled>
-    ensures { IfSome (request_of prepared.now).word (λ tree. IfSome result (IsCompiledFrom tree)) }
+/// The pattern of the tree without the edges of words, compiled, if only whole words count and their matches are shown. `None`
+/// also means that its tables would be too large, or that memory ran out.
+pub(crate) fn compile_word(alloc: Global, wanted: &Wanted<'_>) -> Option<Compiled>
+    ensures { IfSome result (IsCompiledFrom (shown_tree (request_of wanted.now.prepared.now))) }
 {
-    match &prepared.word {
-        Some(word) => {
-            if shows_matches(prepared.view) {
-                compile(alloc, &word.tree)
-            } else {
-                None
-            }
-        }
-        None => None,
+    if wanted.prepared.words && shows_matches(wanted.view) {
+        return compile(alloc, wanted.prepared.shown_tree());
     }
+    None
 }
 
-/// The compiled pattern of the tree whose matches are shown: of the tree without the edges of words, if there is one, and
-/// otherwise of the test of lines.
+/// The compiled pattern of the tree whose matches are shown: of the tree without the edges of words, if only whole words count,
+/// and otherwise of the test of lines.
 pub(crate) fn compiled_of_shown<'p>(
     prepared: &Prepared,
     line: &'p Option<Compiled>,
     word: &'p Option<Compiled>,
 ) -> &'p Option<Compiled>
     requires line { IfSome line.now (IsCompiledFrom (form prepared.now.line.tree)) }
-    requires word { IfSome (request_of prepared.now).word (λ tree. IfSome word.now (IsCompiledFrom tree)) }
+    requires word { IfSome word.now (IsCompiledFrom (shown_tree (request_of prepared.now))) }
     ensures { IfSome result.now (IsCompiledFrom (shown_tree (request_of prepared.now))) }
 {
-    if prepared.word.is_some() { word } else { line }
+    if prepared.words { word } else { line }
 }
 
 /// A seeker of the matches that are shown, or `None` if none are. It uses the compiled pattern of their tree, if there is one.
@@ -197,27 +192,17 @@ pub(crate) fn compiled_of_shown<'p>(
 /// An `Err` means that there is no memory for the simulation.
 pub(crate) fn shown_seeker<'p>(
     alloc: Global,
-    prepared: &Prepared,
+    wanted: &Wanted<'_>,
     compiled: &'p Option<Compiled>,
 ) -> Result<Option<Seeker<'p>>, AllocError>
-    requires { IfSome compiled.now (IsCompiledFrom (shown_tree (request_of prepared.now))) }
-    ensures { IfOk result (CanShow prepared.now) }
+    requires { IfSome compiled.now (IsCompiledFrom (shown_tree (request_of wanted.now.prepared.now))) }
+    ensures { IfOk result (CanShow wanted.now) }
 {
-    if !shows_matches(prepared.view) {
+    if !shows_matches(wanted.view) {
         return Ok(None);
     }
-    let seeker = Seeker::new(alloc, &shown_test(prepared).tree, compiled)?;
+    let seeker = Seeker::new(alloc, wanted.prepared.shown_tree(), compiled)?;
     Ok(Some(seeker))
-}
-
-/// The test whose matches are shown.
-fn shown_test(prepared: &Prepared) -> &Test
-    ensures { form result.now.tree ≡ shown_tree (request_of prepared.now) }
-{
-    match &prepared.word {
-        Some(word) => word,
-        None => &prepared.line,
-    }
 }
 
 /// Whether columns or spans are shown.

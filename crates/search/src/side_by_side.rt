@@ -1,17 +1,17 @@
 //! What is shown of documents, gathered in several parts side by side.
 
-ghost use Rattle.std.specs.Prelude.{◌≡◌, ◌≤◌, ◌++◌, true, false, length, drop, not, ◌+◌, List, IfOk, IfErr, OnOk, IsTrue, ◌⊎◌};
+ghost use Rattle.std.specs.Prelude.{◌≡◌, ◌≤◌, ◌++◌, false, length, drop, ◌+◌, List, IfOk, IfErr, OnOk, IsTrue, ◌⊎◌};
 ghost use Rattle.index.specs.declared.document.SharedDocument.{SharedDocument};
 ghost use Rattle.search.specs.CalledOff.{IsCalledOffOnlyIf};
 ghost use Rattle.search.specs.declared.unanswered.Unanswered.TheVariants.{OutOfMemory};
-ghost use Rattle.search.specs.Private.Gathered.{HasGap, HaveOwnNames, Joins, cut_gap, gap_rows, left_from, shows_context, text_held, view_of};
+ghost use Rattle.search.specs.Private.Gathered.{HasGap, HaveOwnNames, Joins, cut_gap, gap_rows, left_from, shows_context};
 ghost use Rattle.views.specs.Parts.{text_of_parts};
-ghost use Rattle.views.specs.Text.{text_of_rows};
+ghost use Rattle.views.specs.Text.{text_of_hits, text_of_rows};
 ghost use Rattle.search.specs.Rows.{is_over};
 ghost use denote.Param.Send.{IsSync, IsSend};
 
-use crate::ahead::text_of_first;
-use crate::gathered::{Gathered, Wanted, gather, left_of, sum_of};
+use crate::ahead::append_first;
+use crate::gathered::{Gathered, Wanted, gather, is_over, left_of, sum_of};
 use crate::matching::body_size;
 use crate::unanswered::Unanswered;
 use crate::watch::Watch;
@@ -149,8 +149,8 @@ pub(crate) fn gather_part<W: Watch>(
 {
     let gathered = gather(alloc, wanted, documents, watch)?;
     let (count, more) = (gathered.count, gathered.more);
-    let (from, rows) = without_gap(wanted, gathered.rows);
-    let part = part_of(alloc, wanted, gathered, from, ahead, watch)?;
+    let (from, rows) = without_gap(wanted.view, gathered.rows);
+    let part = part_of(wanted.prepared.zero, gathered, from, ahead, watch)?;
     let mut parts = Vec::new(alloc);
     parts.push(part)?;
     Ok(Joined {
@@ -162,66 +162,58 @@ pub(crate) fn gather_part<W: Watch>(
 }
 
 /// Whether lines near hits are shown.
-fn shows_context(wanted: &Wanted<'_>) -> bool
-    ensures { result ≡ shows_context (view_of wanted.now) }
+fn shows_context(view: View) -> bool
+    ensures { result ≡ shows_context view }
 {
-    if wanted.lines {
-        return false;
-    }
-    match wanted.prepared.view {
+    match view {
         View::Context(_) => true,
         _ => false,
     }
 }
 
 /// How many bytes the gap before the first stretch of lines has, and how many of so many rows are left without it.
-fn without_gap(wanted: &Wanted<'_>, rows: usize) -> (usize, usize)
-    ensures { result ≡ cut_gap (shows_context (view_of wanted.now)) rows }
+fn without_gap(view: View, rows: usize) -> (usize, usize)
+    ensures { result ≡ cut_gap (shows_context view) rows }
 {
     if rows == 0 {
         return (0, 0);
     }
-    if !shows_context(wanted) {
+    if !shows_context(view) {
         return (0, rows);
     }
     (GAP.len(), rows - 1)
 }
 
-/// The text of what was gathered, without its first `from` bytes. Where lines alone are shown, `ahead` bytes of it are formed.
+/// The text of what was gathered, without its first `from` bytes, then that of the hits, of which `ahead` bytes are formed.
 fn part_of<W: Watch>(
-    alloc: Global,
-    wanted: &Wanted<'_>,
+    zero: bool,
     gathered: Gathered,
     from: usize,
     ahead: usize,
     watch: &mut W,
 ) -> Result<Part, Unanswered>
-    requires { wanted.now.lines ≡ true → from ≡ 0 }
-    ensures part { IfOk result (λ part. part ≡ drop from (text_held wanted.now gathered)) }
+    ensures part { IfOk result (λ part. part ≡ drop from gathered.text.items ++ text_of_hits zero gathered.hits) }
     ensures called_off { IfErr result (IsCalledOffOnlyIf (W.has_said_no watch.new)) }
 {
-    let zero = wanted.prepared.zero;
-    if !wanted.lines {
-        return Ok(text_part(alloc, gathered.text, from));
-    }
-    let (text, formed) = text_of_first(alloc, zero, gathered.hits.lines(), ahead, watch)?;
+    let mut text = gathered.text;
+    let from = from.min(text.len());
+    let formed = append_first(&mut text, zero, gathered.hits.lines(), ahead, watch)?;
     Ok(Part {
         text,
-        from: 0,
+        from,
         places: gathered.hits,
         formed,
         zero,
     })
 }
 
-/// A part with this text, without its first `from` bytes. It is all formed.
-fn text_part(alloc: Global, text: Vec<u8>, from: usize) -> Part
-    ensures { result ≡ drop from text.items }
+/// A part that is this text. It is all formed.
+fn text_part(alloc: Global, text: Vec<u8>) -> Part
+    ensures { result ≡ text.items }
 {
-    let from = from.min(text.len());
     Part {
         text,
-        from,
+        from: 0,
         places: Places::new(alloc),
         formed: 0,
         zero: false,
@@ -249,7 +241,7 @@ fn fitted<W: Watch>(
     }
     let wanted = Wanted {
         prepared: wanted.prepared,
-        lines: wanted.lines,
+        view: wanted.view,
         limit,
     };
     gather_part(alloc, &wanted, documents, ahead, watch)
@@ -265,17 +257,7 @@ fn fits(left: Option<u32>, before: usize, back: &Joined) -> bool
     if back.more {
         return false;
     }
-    is_within(left, back.count)
-}
-
-/// Whether there are no more than the limit.
-fn is_within(limit: Option<u32>, count: usize) -> bool
-    ensures { result ≡ not (is_over limit count) }
-{
-    match limit {
-        Some(most) => count <= most as usize,
-        None => true,
-    }
+    !is_over(left, back.count)
 }
 
 /// What is shown of the documents at the front, and of those at the back.
@@ -308,23 +290,23 @@ fn add_gap(
     after: usize,
 ) -> Result<(), Unanswered>
     ensures text { OnOk result (text_of_parts all.new.parts.items ≡ text_of_parts all.old.parts.items
-        ++ text_of_rows wanted.now.prepared.now.zero (gap_rows (shows_context (view_of wanted.now)) all.old.rows after)) }
-    ensures rows { OnOk result (all.new.rows ≡ all.old.rows + length (gap_rows (shows_context (view_of wanted.now)) all.old.rows after)) }
+        ++ text_of_rows wanted.now.prepared.now.zero (gap_rows (shows_context wanted.now.view) all.old.rows after)) }
+    ensures rows { OnOk result (all.new.rows ≡ all.old.rows + length (gap_rows (shows_context wanted.now.view) all.old.rows after)) }
     ensures count { OnOk result (all.new.count ≡ all.old.count) }
     ensures memory { IfErr result (λ e. e ≡ OutOfMemory) }
 {
-    if !has_gap(wanted, all.rows, after) {
+    if !has_gap(wanted.view, all.rows, after) {
         return Ok(());
     }
     let gap = Vec::from_slice(alloc, GAP)?;
-    all.parts.push(text_part(alloc, gap, 0))?;
+    all.parts.push(text_part(alloc, gap))?;
     all.rows = sum_of(all.rows, 1)?;
     Ok(())
 }
 
 /// Whether there is a gap between so many rows and so many.
-fn has_gap(wanted: &Wanted<'_>, before: usize, after: usize) -> bool
-    ensures { HasGap result (gap_rows (shows_context (view_of wanted.now)) before after) }
+fn has_gap(view: View, before: usize, after: usize) -> bool
+    ensures { HasGap result (gap_rows (shows_context view) before after) }
 {
     if before == 0 {
         return false;
@@ -332,5 +314,5 @@ fn has_gap(wanted: &Wanted<'_>, before: usize, after: usize) -> bool
     if after == 0 {
         return false;
     }
-    shows_context(wanted)
+    shows_context(view)
 }

@@ -1,8 +1,8 @@
 //! What a search takes out of an index, so that names and lines can be matched without the index.
 
-ghost use Rattle.std.specs.Prelude.{◌≡◌, if◌then◌else◌, IfOk, IfErr};
+ghost use Rattle.std.specs.Prelude.{◌≡◌, IfOk, IfErr};
 ghost use Rattle.search.specs.declared.unanswered.Unanswered.TheVariants.{OutOfMemory};
-ghost use Rattle.search.specs.Private.Gathered.{shown_with, view_of};
+ghost use Rattle.search.specs.Private.Gathered.{shown_with};
 ghost use Rattle.prepare.specs.Prepared.{request_of};
 ghost use Rattle.search.specs.Taken.{IsTakenOf};
 
@@ -99,7 +99,7 @@ impl Taken<'_> {
         let kept = named(alloc, self.prepared, self.candidates, watch)?;
         let wanted = Wanted {
             prepared: self.prepared,
-            lines: true,
+            view: View::Lines,
             limit: None,
         };
         let gathered = gather(alloc, &wanted, kept.as_slice(), watch)?;
@@ -171,22 +171,12 @@ impl Taken<'_> {
 fn wanted_by(prepared: &Prepared) -> Wanted<'_>
     ensures prepared { result.prepared.now ≡ prepared.now }
     ensures limit { result.limit ≡ prepared.now.limit }
-    ensures view { view_of result ≡ prepared.now.view }
+    ensures view { result.view ≡ prepared.now.view }
 {
     Wanted {
         prepared,
-        lines: shows_lines(prepared.view),
+        view: prepared.view,
         limit: prepared.limit,
-    }
-}
-
-/// Whether lines alone are shown.
-fn shows_lines(view: View) -> bool
-    ensures { (if result then View.Lines else view) ≡ view }
-{
-    match view {
-        View::Lines => true,
-        _ => false,
     }
 }
 

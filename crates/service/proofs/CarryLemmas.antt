@@ -1,10 +1,11 @@
 -- Items that are carried out have their entries.
 use Rattle.std.proofs.Common.{◌≡◌, ℕ, inl, List, [], ◌∷◌, ◌++◌, Some, None, Ok, Err, refl, sym, ap, ◌∙◌}
 use Rattle.std.proofs.lemmas.List.{append-nil}
-use Rattle.std.specs.Prelude.{Result, IfOk, IfErr, length}
+use Rattle.std.specs.Prelude.{false, Result, IfOk, IfErr, length}
 use Rattle.index.specs.State.{State, state_of}
 use Rattle.index.specs.declared.command.Command.{Command}
 use Rattle.index.specs.declared.command.Command.TheVariants.{Put, Remove}
+use Rattle.script.specs.Items.{Item}
 use Rattle.script.specs.Items as item
 use Rattle.published.specs.Desk.{DeskState}
 use Rattle.published.specs.History.{Known, known}
@@ -12,10 +13,10 @@ use Rattle.transcript.specs.declared.entry.Entry.{Entry}
 use Rattle.transcript.specs.declared.entry.Entry.TheVariants.{Refused, Published}
 use Rattle.transcript.specs.declared.entry.Reason.{Reason}
 use Rattle.transcript.specs.declared.entry.Reason.TheVariants as reason
-use Rattle.steps.specs.LegalRows.{IsNamed, bad_name, no_memory, named, IsRoomFor, full, accepted, IsPut}
+use Rattle.steps.specs.LegalRows.{IsNamed, bad_name, no_memory, named, IsRoomFor, full, accepted, IsPut, IsCommandEntry}
 use Rattle.steps.specs.LegalRows.{IsRemove, no_such_file, is_there}
 use Rattle.steps.specs.LegalRows as legal
-use Rattle.steps.specs.Rows.{accepted_by, version_in, failures_in}
+use Rattle.steps.specs.Rows.{accepted_by, version_in, failures_in, searches_of, is_sync}
 use Rattle.service.specs.Private.Entries.{entry_of, published_entry_of, desk_after, IsLoaded}
 use Rattle.steps.specs.StepRows.{searches_in}
 use Rattle.service.specs.Private.Items.{IsEntered, all, nothing}
@@ -152,71 +153,20 @@ module _ (Holds : List ℕ → List ℕ → Type 0) (desk : DeskState) (told : K
     counted = counted_same (Refused line why) failed (no_failure_at (ap (Refused line) err.0) refl);
   })
 
-  pub carried_bad_line : entry ≡ Refused line reason.BadLine → IsEntered Holds desk told failed (item.numbered line item.bad_line) entry desk told failed
-  carried_bad_line is =
-      rw is
-      (record {
-        loaded = None;
-        legal = refl;
-        no_search = refl;
-        no_sync = refl;
-        no_search_entry = refl;
-        opening = refl;
-        limit = refl;
-        accepted = sym (append-nil desk.accepted);
-        tells = nothing refl refl;
-        published = λ h. h;
-        counted = counted_same (Refused line reason.BadLine) failed refl;
-      })
-
-  pub carried_bad_put : entry ≡ Refused line reason.BadPut → IsEntered Holds desk told failed (item.numbered line item.bad_put) entry desk told failed
-  carried_bad_put is =
-      rw is
-      (record {
-        loaded = None;
-        legal = refl;
-        no_search = refl;
-        no_sync = refl;
-        no_search_entry = refl;
-        opening = refl;
-        limit = refl;
-        accepted = sym (append-nil desk.accepted);
-        tells = nothing refl refl;
-        published = λ h. h;
-        counted = counted_same (Refused line reason.BadPut) failed refl;
-      })
-
-  pub carried_truncated : entry ≡ Refused line reason.Truncated → IsEntered Holds desk told failed (item.numbered line item.truncated) entry desk told failed
-  carried_truncated is =
-      rw is
-      (record {
-        loaded = None;
-        legal = refl;
-        no_search = refl;
-        no_sync = refl;
-        no_search_entry = refl;
-        opening = refl;
-        limit = refl;
-        accepted = sym (append-nil desk.accepted);
-        tells = nothing refl refl;
-        published = λ h. h;
-        counted = counted_same (Refused line reason.Truncated) failed refl;
-      })
-
-  pub carried_open_body : entry ≡ Refused line reason.BodyNotClosed
-      → IsEntered Holds desk told failed (item.numbered line item.body_not_closed) entry desk told failed
-  carried_open_body is =
-      rw is
-      (record {
-        loaded = None;
-        legal = refl;
-        no_search = refl;
-        no_sync = refl;
-        no_search_entry = refl;
-        opening = refl;
-        limit = refl;
-        accepted = sym (append-nil desk.accepted);
-        tells = nothing refl refl;
-        published = λ h. h;
-        counted = counted_same (Refused line reason.BodyNotClosed) failed refl;
-      })
+  -- a line that is refused for itself
+  pub carried_refused : (shown : Item) (why : Reason) → entry ≡ Refused line why
+      → IsCommandEntry Holds desk.limit (state_of desk.accepted) None line shown (Refused line why) → searches_of shown ≡ 0 → is_sync shown ≡ false
+      → failures_in (Some (Refused line why)) ≡ 0 → IsEntered Holds desk told failed (item.numbered line shown) entry desk told failed
+  carried_refused shown why is legal_is none no_sync unfailed = rw is (record {
+    loaded = None;
+    legal = legal_is;
+    no_search = none;
+    no_sync = no_sync;
+    no_search_entry = refl;
+    opening = refl;
+    limit = refl;
+    accepted = sym (append-nil desk.accepted);
+    tells = nothing refl refl;
+    published = λ h. h;
+    counted = counted_same (Refused line why) failed unfailed;
+  })

@@ -1,11 +1,11 @@
 -- Steps of a service.
-use Rattle.std.proofs.Common.{◌≡◌, ℕ, ◌+◌, ◌<◌, ◌≤◌, ◌⊎◌, inl, inr, List, [], ◌∷◌, ◌++◌, length, take, drop, Option, Some, None, Result, Ok, Err, true, refl, sym, ap, ◌∙◌, subst, arith}
+use Rattle.std.proofs.Common.{◌≡◌, ℕ, ◌+◌, ◌<◌, ◌≤◌, ◌⊎◌, inl, inr, List, [], ◌∷◌, ◌++◌, length, take, drop, Option, Some, Result, Ok, Err, true, refl, sym, ap, ◌∙◌, subst, arith}
 use Rattle.std.proofs.Common.{append_assoc, length-append, get_or, set}
-use Rattle.std.proofs.lemmas.List.{append-nil, length-set, length-take-le, length-drop, get_or_default}
+use Rattle.std.proofs.lemmas.List.{append-nil, length-replicate, length-set, length-take-le, length-drop, get_or_default}
 use Rattle.std.proofs.lemmas.List.Elements.{All-append, All-take, All-drop, All-set, Contains-append_left, Contains-append_right}
 use Rattle.std.proofs.lemmas.Option.{slice_get_within, get_or_from_slice_get, slice_get-get_or}
 use Rattle.std.proofs.Math.Seq.{take-append_seam}
-use Rattle.std.specs.Prelude.{All, Bool, Contains, IfOk, MatchBool, false, is_ok, slice_get}
+use Rattle.std.specs.Prelude.{All, Bool, Contains, IfOk, MatchBool, false, is_ok, replicate, slice_get}
 use Rattle.std.specs.List.{HoldsAt}
 use Rattle.std.specs.List.Sorted.{IsSearchInRange}
 use Rattle.std.specs.Ordering.{nat_cmp}
@@ -13,35 +13,36 @@ use Rattle.std.specs.declared.cmp.Ordering.TheVariants.{Equal}
 use Rattle.steps.proofs.RowLemmas.{last_or-append}
 use mathlib.Core.List.{IsPrefix}
 use Rattle.index.specs.declared.command.Command.{Command}
-use Rattle.index.specs.declared.command.Command.TheVariants.{Put}
 use Rattle.index.specs.State.{state_of}
 use Rattle.search.specs.Shown.{IsShownOf}
 use Rattle.views.specs.Shown.{Shown}
 use Rattle.prepare.specs.Request.{Request}
 use Rattle.prepare.specs.Prepared.{request_of}
 use Rattle.prepare.specs.declared.pattern.Prepared.{Prepared}
-use Rattle.script.specs.Items.{Item, Numbered, numbered, put}
+use Rattle.logbook.specs.Pages.{Book}
+use Rattle.index.specs.declared.body.TheConstants.{MAX_BODY}
+use Rattle.input.specs.declared.owned.OwnedItem.{OwnedItem}
+use Rattle.input.specs.declared.owned.OwnedItem.TheVariants as owned
+use Rattle.input.specs.Owned.{ShowsOwned}
+use Rattle.script.specs.Items.{Item, Numbered}
 use Rattle.script.specs.Items as item
 use Rattle.published.specs.Desk.{DeskState}
 use Rattle.published.specs.History.{Known}
 use Rattle.transcript.specs.declared.entry.Entry.{Entry}
-use Rattle.transcript.specs.declared.entry.Entry.TheVariants.{Refused, Published, Found, SearchRefused}
-use Rattle.transcript.specs.declared.entry.Reason.{Reason}
+use Rattle.transcript.specs.declared.entry.Entry.TheVariants.{Published, Found, SearchRefused}
 use Rattle.transcript.specs.declared.entry.SearchReason.{SearchReason}
 use Rattle.transcript.specs.declared.entry.SearchReason.TheVariants as reason
 use Rattle.steps.specs.declared.last.Last.{Last}
 use Rattle.steps.specs.Rows.{accepted_by, command_of, version_in, last_or, searches_of, is_sync}
-use Rattle.steps.specs.LegalRows.{IsPut, status_entry}
+use Rattle.steps.specs.LegalRows.{status_entry}
 use Rattle.steps.specs.Asked.{Asks, IsFaultOf}
 use Rattle.steps.specs.Steps.{OpenSearch, MayTake, last, last_of, asked}
 use Rattle.steps.specs.Asked as asking
 use Rattle.steps.specs.Steps as steps
 use Rattle.service.specs.declared.taken.Taken.{Taken}
 use Rattle.service.specs.declared.taken.Taken.TheVariants as taken_as
-use Rattle.service.specs.Service.{ServiceState, run_of, Fits, Steps, Takes, TakesPut, Gives, answered, not_answered, too_slow, CanStand, versions_in, written_by, IsKind, HasNumber}
+use Rattle.service.specs.Service.{ServiceState, run_of, Fits, Steps, Takes, Gives, answered, not_answered, too_slow, CanStand, versions_in, written_by, failures_by, IsCounted, IsKind, HasNumber}
 use Rattle.service.specs.Private.Items.{IsEntered, IsLeft, Tells, all, nothing}
-use Rattle.service.specs.Private.Entries.{entry_of, desk_after}
-use Rattle.service.proofs.CarryLemmas.{carried_put, same_opening, same_published}
 use Rattle.service.specs.Opening.{limits_of}
 use Rattle.service.specs.Private.Closing.{IsService, service_of, with_kept, CanClose, IsAsked, asked_for, refused, IsGivenUp}
 use Rattle.service.specs.Private.Closing.{IsPlaceOf, IsCancelled, given_up, too_late, no_such_search}
@@ -98,6 +99,13 @@ module _ (Holds : List ℕ → List ℕ → Type 0) (desk : DeskState) (told : K
         turns = is.turns;
         reader_zero = is.reader_zero;
       }
+
+  pub entered_opening : (book : Book) → desk.opening ≡ book → told.opening ≡ book → told'.opening ≡ book
+  entered_opening book its also = by entered.tells
+    where
+      by : Tells desk told entry told' → told'.opening ≡ book
+      by (all line is told_is) = ap (λ k. k.opening) told_is ∙ its
+      by (nothing none told_is) = ap (λ k. k.opening) told_is ∙ also
 
   latest_by : Tells desk told entry told' → (published : List ℕ) → last_or 0 published ≡ length told.commands
       → last_or 0 (published ++ version_in (Some entry)) ≡ length told'.commands
@@ -169,6 +177,21 @@ pub asked_number : (item : Item) (old : ServiceState) (result : Taken) (new : Se
 asked_number item old result new (asked_for request asks is after) = rw (is, after) refl
 asked_number item old result new (refused why fault is) = rw is.entry tt
 
+-- only a search is open, or has the entry of a search
+pub asked_kind : (item : Item) (old : ServiceState) (result : Taken) (new : ServiceState) → IsAsked item old result new → searches_of item ≡ 1
+    → IsKind item result
+asked_kind item old result new (asked_for request asks is after) one = rw is one
+asked_kind item old result new (refused why fault is) one = rw is.entry (sym one)
+
+-- a search is no load
+pub asked_unfailed : (item : Item) (old : ServiceState) (result : Taken) (new : ServiceState) → IsAsked item old result new → failures_by result ≡ 0
+asked_unfailed item old result new (asked_for request asks is after) = rw is refl
+asked_unfailed item old result new (refused why fault is) = rw is.entry refl
+
+-- no load failed
+pub counted_zero : (n failed failed' : ℕ) → n ≡ 0 → failed' ≡ failed → IsCounted n failed failed'
+counted_zero n failed failed' none same = record { rises = inl (omega (arith, none, same)); stays = λ full. same ∙ full }
+
 -- of other items there is no task
 pub no_number : (searches : ℕ) (item : Item) (result : Taken) → searches_of item ≡ 0 → IsKind item result → HasNumber searches result
 no_number searches item (taken_as.Entry entry) none kind = tt
@@ -219,32 +242,6 @@ status_takes Holds old taken entry asks is published readers fits may = rw is (r
       (ap (λ v. status_entry taken.line v old.accepted old.limits.commands (length old.awaited) ∷ []) (sym fits.latest))
       (rw (append-nil published) refl);
   fits = fits_still old old published refl refl fits;
-  limits = refl;
-})
-
--- a put is accepted or refused
-pub put_left : (desk desk' : DeskState) (timed : Bool) (told : Known) (kept : List ℕ) (searches : ℕ) (awaited : List OpenSearch) (lasts : List Last)
-    (name body : List ℕ) (line : ℕ) (done : Result ℕ Reason) (entry : Entry) → entry ≡ entry_of line done
-    → IsPut desk.limit (state_of desk.accepted) name body line (entry_of line done) → desk' ≡ desk_after done (Put name body ∷ []) desk
-    → TakesPut (service_of desk timed told kept searches awaited lasts) name body line entry (service_of desk' timed told kept searches awaited lasts)
-put_left desk desk' timed told kept searches awaited lasts name body line done entry is legal_is left = rw (is, left) (record { legal = legal_is; left = by done })
-  where
-    with_accepted : List Command → ServiceState
-    with_accepted l = record (service_of desk timed told kept searches awaited lasts) { accepted = l }
-
-    by : (r : Result ℕ Reason) → service_of (desk_after r (Put name body ∷ []) desk) timed told kept searches awaited lasts
-        ≡ with_accepted (desk.accepted ++ accepted_by (Some (entry_of line r)) (Put name body ∷ []))
-    by (Ok count) = refl
-    by (Err why) = ap with_accepted (sym (append-nil desk.accepted))
-
--- so does the run
-pub put_takes : (Holds : List ℕ → List ℕ → Type 0) (old new : ServiceState) (name body : List ℕ) (line : ℕ) (entry : Entry)
-    → TakesPut old name body line entry new → version_in (Some entry) ≡ [] → Takes Holds old (numbered line (put name body)) (entry ∷ []) new
-put_takes Holds old new name body line entry takes none published readers fits may = rw takes.left (record {
-  step =
-      steps.carried_out (numbered line (put name body)) None entry may takes.legal refl refl
-      (rw (none, append-nil published) refl);
-  fits = rw none (fits_still old _ published refl refl fits);
   limits = refl;
 })
 
@@ -465,30 +462,6 @@ module _ (inside : ServiceState) (place number : ℕ) (within : place < length i
   pub refusal_is_service : IsService inside → IsService after_refusal
   refusal_is_service is = rw left (refused_is_service inside place found is_open is)
 
-pub put_is_service : (desk desk' : DeskState) (timed : Bool) (told : Known) (kept : List ℕ) (searches : ℕ) (awaited : List OpenSearch) (lasts : List Last)
-    (name body : List ℕ) (line : ℕ) (done : Result ℕ Reason) → IsPut desk.limit (state_of desk.accepted) name body line (entry_of line done)
-    → desk' ≡ desk_after done (Put name body ∷ []) desk → IsService (service_of desk timed told kept searches awaited lasts)
-    → IsService (service_of desk' timed told kept searches awaited lasts)
-put_is_service desk desk' timed told kept searches awaited lasts name body line done legal left =
-    entered_is_service (λ path bytes. Unit {0}) desk told 0 (numbered line (put name body)) (entry_of line done) desk' told 0
-    (carried_put (λ path bytes. Unit {0}) desk told 0 line done (entry_of line done) refl name body desk' legal left) timed kept searches awaited lasts
-
-pub same_opening_after : (done : Result ℕ Reason) (commands : List Command) (desk desk' : DeskState) → desk' ≡ desk_after done commands desk
-    → desk'.opening ≡ desk.opening
-same_opening_after done commands desk desk' left = ap (λ d. d.opening) left ∙ (same_opening done commands desk).0
-
-pub same_published_after : (done : Result ℕ Reason) (commands : List Command) (desk desk' : DeskState) → desk' ≡ desk_after done commands desk
-    → desk'.published ≡ desk.published
-same_published_after done commands desk desk' left = ap (λ d. d.published) left ∙ same_published done commands desk
-
--- a put that is refused leaves the service as it is
-pub refused_put : (service : ServiceState) (name body : List ℕ) (line : ℕ) (why : Reason) (entry : Entry) → entry ≡ entry_of line (Err why)
-    → IsPut service.limits.commands (state_of service.accepted) name body line (Refused line why) → TakesPut service name body line entry service
-refused_put service name body line why entry is legal = rw is (record {
-  legal = legal;
-  left = ap (λ l. record service { accepted = l }) (sym (append-nil service.accepted));
-})
-
 -- after a publish, what is kept was kept before, or is its version
 pub kept_note : (old kept' : List ℕ) (entry : Entry) (line v : ℕ) → entry ≡ Published line v
     → ((version : ℕ) → Contains kept' version → Contains old version ⊎ (version ≡ v))
@@ -530,3 +503,25 @@ gives_memory place old entry new is = not_answered place is.search is.is_open is
 pub gives_too_slow : (place : ℕ) (old : ServiceState) (entry : Entry) (new : ServiceState) → old.limits.timed ≡ true
     → IsGivenUp place reason.TooSlow old entry new → Gives old entry new
 gives_too_slow place old entry new timed is = too_slow place is.search timed is.is_open is.refused is.left
+
+longer : (n : ℕ) → (body : List ℕ) × (n < length body)
+longer n = (replicate (n + 1) 0, omega (arith, length-replicate {A = ℕ} (n + 1) 0))
+
+-- whatever was read shows something
+pub shown_some : (o : OwnedItem) → (i : Item) × ShowsOwned o i
+shown_some (owned.Put name body) = (item.put name.items body.items, refl)
+shown_some (owned.LongPut name) = let long = longer MAX_BODY in (item.put name.items long.0, (long.0, refl, long.1))
+shown_some (owned.LostPut name) = (item.put name.items [], ([], refl))
+shown_some (owned.Load name path) = (item.load name.items path.items, refl)
+shown_some (owned.Remove name) = (item.remove name.items, refl)
+shown_some owned.Publish = (item.publish, refl)
+shown_some (owned.Search case pattern) = (item.search case pattern.items, refl)
+shown_some (owned.SearchIn case name_pattern pattern) = (item.search_in case name_pattern.items pattern.items, refl)
+shown_some (owned.Find text) = (item.find text.items, refl)
+shown_some owned.Sync = (item.sync, refl)
+shown_some (owned.Cancel number) = (item.cancel number, refl)
+shown_some owned.Status = (item.status, refl)
+shown_some owned.BadLine = (item.bad_line, refl)
+shown_some owned.BadPut = (item.bad_put, refl)
+shown_some owned.Truncated = (item.truncated, refl)
+shown_some owned.BodyNotClosed = (item.body_not_closed, refl)

@@ -2,7 +2,6 @@
 use Rattle.std.specs.Prelude.{◌≡◌, ℕ, ◌+◌, ◌⊎◌, ◌≤◌, ◌<◌, List, [], ◌∷◌, ◌++◌, length, take, drop, replicate, flat_map, Contains}
 use Rattle.std.specs.Prelude.{Some, true, slice_get, slice_set}
 use Rattle.index.specs.declared.command.Command.{Command}
-use Rattle.index.specs.declared.command.Command.TheVariants.{Put}
 use Rattle.index.specs.State.{state_of}
 use Rattle.prepare.specs.Request.{Request}
 use Rattle.search.specs.Shown.{IsShownOf}
@@ -14,8 +13,8 @@ use Rattle.transcript.specs.declared.entry.Entry.{Entry}
 use Rattle.transcript.specs.declared.entry.Entry.TheVariants.{Found, SearchRefused}
 use Rattle.transcript.specs.declared.entry.SearchReason.TheVariants as reason
 use Rattle.steps.specs.declared.last.Last.{Last}
-use Rattle.steps.specs.LegalRows.{Limits, IsPut, IsFailedTimes, greatest_failures}
-use Rattle.steps.specs.Rows.{accepted_by, version_in, last_or, failures_in, searches_of}
+use Rattle.steps.specs.LegalRows.{Limits, IsFailedTimes, greatest_failures}
+use Rattle.steps.specs.Rows.{version_in, last_or, failures_in, searches_of}
 use Rattle.steps.specs.StepRows.{searches_in}
 use Rattle.steps.specs.Asked.{Asks}
 use Rattle.steps.specs.Steps.{OpenSearch, RunState, IsStep, MayTake, last, last_of}
@@ -74,11 +73,6 @@ abbrev pub Takes : (List ℕ → List ℕ → Type 0) → ServiceState → Numbe
 Takes Holds old item written new =
     (published : List ℕ) (readers : ℕ) → Fits old published → MayTake readers (run_of old published) item.item
     → Steps Holds readers old published (item ∷ []) written new (published ++ versions_in written)
-
--- A put was taken: it is accepted or refused, and the service has its command if it is accepted.
-pub record TakesPut (old : ServiceState) (name body : List ℕ) (line : ℕ) (entry : Entry) (new : ServiceState) : Type 0 where
-  pub legal : IsPut old.limits.commands (state_of old.accepted) name body line entry
-  pub left : new ≡ record old { accepted = old.accepted ++ accepted_by (Some entry) (Put name body ∷ []) }
 
 -- The answer is that of these commands, for what the search asks for.
 abbrev pub IsFound : Item → List Command → Shown → Type 0

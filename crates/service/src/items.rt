@@ -4,18 +4,20 @@ ghost use Rattle.std.specs.Prelude.{◌≡◌, ℕ, ◌+◌, ◌<◌, ◌^◌, �
 ghost use Rattle.index.specs.declared.command.Command.TheVariants.{Put as put_command, Remove as remove_command};
 ghost use Rattle.index.specs.State.{State, state_of};
 ghost use Rattle.index.specs.Text.{greatest_body};
-ghost use Rattle.script.specs.Reading.{shown_item};
-ghost use Rattle.script.specs.Items.{numbered as numbered_item};
+ghost use Rattle.input.specs.Owned.{ShowsOwned};
+ghost use Rattle.script.specs.Items.{Item, numbered};
+ghost use Rattle.transcript.specs.declared.entry.Entry.TheVariants.{Refused as refused_entry};
 ghost use Rattle.published.specs.Desk.{DeskState, IsPutFault};
 ghost use Rattle.published.specs.History.{known};
 ghost use Rattle.steps.specs.LegalRows.{IsPut, IsNamed, IsRemove};
 ghost use Rattle.service.specs.Private.Entries.{reason_of_name, entry_of, published_entry_of, desk_after, HasBodyOrNoMemory, IsRemoveOrNoMemory, IsLoaded};
 ghost use Rattle.service.specs.Private.Items.{IsCarriedOut};
 
+use crate::question::{Question, Texts};
 use crate::source::{Fault, Source};
-use index::{Body, BodyErrorKind, MAX_BODY, Name, NameError};
+use index::{Body, BodyErrorKind, Name, NameError};
+use input::{OwnedItem, ReadItem};
 use published::{Desk, PutErrorKind, RemoveError, Told};
-use script::{Item, Numbered};
 use std::alloc::Global;
 use std::sync::Wait;
 use transcript::{Entry, Reason};
@@ -47,28 +49,11 @@ fn put_body(desk: &mut Desk, name: Name, bytes: Vec<u8>) -> Result<u32, Reason>
     }
 }
 
-fn put(alloc: Global, desk: &mut Desk, name: &[u8], body: &[u8]) -> Result<u32, Reason>
-    ensures entry { (line : ℕ) → IsPut desk.old.limit (state_of desk.old.accepted) name.now body.now line (entry_of line result) }
-    ensures desk { desk.new ≡ desk_after result (put_command name.now body.now ∷ []) desk.old }
-{
-    let name = match Name::new(alloc, name) {
-        Ok(name) => name,
-        Err(error) => return Err(reason_of_name(error)),
-    };
-    if body.len() > MAX_BODY {
-        return Err(Reason::Body(BodyErrorKind::TooLong));
-    }
-    match Vec::from_slice(alloc, body) {
-        Ok(bytes) => put_body(desk, name, bytes),
-        Err(_) => Err(Reason::OutOfMemory),
-    }
-}
-
-/// Puts a body that was already read, which is not copied. Returns the number of accepted commands, with this one.
+/// Puts a body, which is not copied. Returns the number of accepted commands, with this one.
 ///
 /// An `Err` is the first cause: the fault of the name, the fault of the body, or `Full`; or `OutOfMemory`. Nothing is
 /// accepted then.
-pub fn put_read(alloc: Global, desk: &mut Desk, name: &[u8], body: Vec<u8>) -> Result<u32, Reason>
+fn put(alloc: Global, desk: &mut Desk, name: &[u8], body: Vec<u8>) -> Result<u32, Reason>
     ensures entry { (line : ℕ) → IsPut desk.old.limit (state_of desk.old.accepted) name.now body.items line (entry_of line result) }
     ensures desk { desk.new ≡ desk_after result (put_command name.now body.items ∷ []) desk.old }
 {
@@ -79,7 +64,7 @@ pub fn put_read(alloc: Global, desk: &mut Desk, name: &[u8], body: Vec<u8>) -> R
 }
 
 /// Why a put whose body is too long is refused: for its name, if that is not valid, and otherwise for the body.
-pub fn reason_of_long_put(alloc: Global, name: &[u8]) -> Reason
+fn reason_of_long_put(alloc: Global, name: &[u8]) -> Reason
     ensures { (most : ℕ) (state : State) (body : List ℕ) (line : ℕ)
         → greatest_body < length body → IsPut most state name.now body line (Entry.Refused line result) }
 {
@@ -91,7 +76,7 @@ pub fn reason_of_long_put(alloc: Global, name: &[u8]) -> Reason
 
 /// Why a put is refused if there is no memory for its bytes: for its name, if that is not valid, and otherwise for
 /// lack of memory.
-pub fn reason_of_lost_put(alloc: Global, name: &[u8]) -> Reason
+fn reason_of_lost_put(alloc: Global, name: &[u8]) -> Reason
     ensures { (most : ℕ) (state : State) (body : List ℕ) (line : ℕ) → IsPut most state name.now body line (Entry.Refused line result) }
 {
     match Name::new(alloc, name) {
@@ -150,7 +135,7 @@ fn remove_named(desk: &mut Desk, name: &Name) -> Result<u32, Reason>
 }
 
 /// The entry of a command.
-pub fn entry_of(line: u32, done: Result<u32, Reason>) -> Entry
+fn entry_of(line: u32, done: Result<u32, Reason>) -> Entry
     ensures { result ≡ entry_of line done }
 {
     match done {
@@ -192,7 +177,7 @@ pub enum Outcome {
     /// It was carried out, or refused.
     Entry(Entry),
     /// It is a search, which a reading is to answer.
-    Search,
+    Search(Question),
     /// It is a sync: the searches before it are to be answered before anything after it is carried out.
     Sync,
     /// It is a cancel of the search with this number.
@@ -209,31 +194,58 @@ pub fn carry_out<R: Wait, S: Source>(
     desk: &mut Desk,
     told: &mut Told,
     source: &mut S,
-    item: Numbered<'_>,
+    read: ReadItem,
 ) -> Outcome
-    ensures done { IsCarriedOut (S.holds source.old) desk.old told.old (S.failed source.old)
-        (numbered_item item.entry.line (shown_item item.entry.item)) result desk.new told.new (S.failed source.new) }
+    ensures done { (shown : Item) → ShowsOwned read.item shown → IsCarriedOut (S.holds source.old) desk.old told.old (S.failed source.old)
+        (numbered read.line shown) result desk.new told.new (S.failed source.new) }
     ensures same { (path body : List ℕ) → (S.holds source.new path body → S.holds source.old path body)
         × (S.holds source.old path body → S.holds source.new path body) }
     ensures counted { S.failed source.old ≤ S.failed source.new }
 {
-    let line = item.line;
-    match item.item {
-        Item::Put { name, body } => Outcome::Entry(entry_of(line, put(alloc, desk, name, body))),
-        Item::Load { name, path } => {
-            Outcome::Entry(entry_of(line, load(alloc, desk, source, name, path)))
+    let ReadItem { line, item } = read;
+    match item {
+        OwnedItem::Put { name, body } => {
+            Outcome::Entry(entry_of(line, put(alloc, desk, &name, body)))
         }
-        Item::Remove { name } => Outcome::Entry(entry_of(line, remove(alloc, desk, name))),
-        Item::Publish => Outcome::Entry(publish_entry(line, publish(rt, desk, told))),
-        Item::Search { .. } => Outcome::Search,
-        Item::SearchIn { .. } => Outcome::Search,
-        Item::Find { .. } => Outcome::Search,
-        Item::Sync => Outcome::Sync,
-        Item::Cancel { search } => Outcome::Cancel(search),
-        Item::Status => Outcome::Status,
-        Item::BadLine => Outcome::Entry(entry_of(line, Err(Reason::BadLine))),
-        Item::BadPut => Outcome::Entry(entry_of(line, Err(Reason::BadPut))),
-        Item::Truncated => Outcome::Entry(entry_of(line, Err(Reason::Truncated))),
-        Item::BodyNotClosed => Outcome::Entry(entry_of(line, Err(Reason::BodyNotClosed))),
+        OwnedItem::LongPut { name } => {
+            Outcome::Entry(entry_of(line, Err(reason_of_long_put(alloc, &name))))
+        }
+        OwnedItem::LostPut { name } => {
+            Outcome::Entry(entry_of(line, Err(reason_of_lost_put(alloc, &name))))
+        }
+        OwnedItem::Load { name, path } => {
+            Outcome::Entry(entry_of(line, load(alloc, desk, source, &name, &path)))
+        }
+        OwnedItem::Remove { name } => Outcome::Entry(entry_of(line, remove(alloc, desk, &name))),
+        OwnedItem::Publish => Outcome::Entry(publish_entry(line, publish(rt, desk, told))),
+        OwnedItem::Search { case, pattern } => {
+            Outcome::Search(Question::new(Texts::Search { case, pattern }))
+        }
+        OwnedItem::SearchIn {
+            case,
+            name_pattern,
+            pattern,
+        } => Outcome::Search(Question::new(Texts::SearchIn {
+            case,
+            name_pattern,
+            pattern,
+        })),
+        OwnedItem::Find { request } => {
+            Outcome::Search(Question::new(Texts::Find { words: request }))
+        }
+        OwnedItem::Sync => Outcome::Sync,
+        OwnedItem::Cancel { search } => Outcome::Cancel(search),
+        OwnedItem::Status => Outcome::Status,
+        OwnedItem::BadLine => refused(line, Reason::BadLine),
+        OwnedItem::BadPut => refused(line, Reason::BadPut),
+        OwnedItem::Truncated => refused(line, Reason::Truncated),
+        OwnedItem::BodyNotClosed => refused(line, Reason::BodyNotClosed),
     }
+}
+
+/// A line that is refused.
+fn refused(line: u32, reason: Reason) -> Outcome
+    ensures { result ≡ Outcome.Entry (refused_entry line reason) }
+{
+    Outcome::Entry(Entry::Refused { line, reason })
 }

@@ -1,12 +1,9 @@
 //! What a search asks for.
 
-ghost use Rattle.std.specs.Prelude.{◌≡◌, MatchBool, IfOk, IfSome};
-ghost use Rattle.script.specs.Reading.{shown_item};
-ghost use Rattle.steps.specs.Rows.{searches_of};
+ghost use Rattle.std.specs.Prelude.{◌≡◌, MatchBool, IfOk};
 ghost use Rattle.service.specs.Private.Requests.{search_of};
 
 use ere::Case;
-use script::Item;
 use std::alloc::{AllocError, Global};
 use std::marker::Model;
 
@@ -16,7 +13,7 @@ pub(crate) struct Question {
     texts: Texts,
 }
 
-/// The texts of each kind of search. `script::Item` says what they are.
+/// The texts of each kind of search. `input::OwnedItem` has the same.
 #[derive(Debug, PartialEq, Eq, Drop)]
 pub(crate) enum Texts {
     Search {
@@ -43,30 +40,11 @@ impl Model for Question {
 }
 
 impl Question {
-    /// A copy of a search's texts. `None` if the item is not a search. An `Err` means that memory ran out.
-    pub(crate) fn of(alloc: Global, item: Item<'_>) -> Result<Option<Question>, AllocError>
-        ensures some { IfOk result (λ asked. IfSome asked (λ question. question ≡ shown_item item.entry)) }
+    /// The search with these texts.
+    pub(crate) fn new(texts: Texts) -> Question
+        ensures { result ≡ search_of texts }
     {
-        let texts = match item {
-            Item::Search { case, pattern } => Texts::Search {
-                case,
-                pattern: Vec::from_slice(alloc, pattern)?,
-            },
-            Item::SearchIn {
-                case,
-                name_pattern,
-                pattern,
-            } => Texts::SearchIn {
-                case,
-                name_pattern: Vec::from_slice(alloc, name_pattern)?,
-                pattern: Vec::from_slice(alloc, pattern)?,
-            },
-            Item::Find { request } => Texts::Find {
-                words: Vec::from_slice(alloc, request)?,
-            },
-            _ => return Ok(None),
-        };
-        Ok(Some(Question { texts }))
+        Question { texts }
     }
 
     /// A copy. An `Err` means that memory ran out.
@@ -94,29 +72,11 @@ impl Question {
         Ok(Question { texts })
     }
 
-    /// The search, borrowed.
-    pub(crate) fn lend(&self) -> Item<'_>
-        ensures same { shown_item result ≡ self.now }
-        ensures search { searches_of (shown_item result) ≡ 1 }
+    /// The texts.
+    pub(crate) fn texts(&self) -> &Texts
+        ensures { search_of result.now ≡ self.now }
     {
-        match &self.texts {
-            Texts::Search { case, pattern } => Item::Search {
-                case: *case,
-                pattern: pattern.as_slice(),
-            },
-            Texts::SearchIn {
-                case,
-                name_pattern,
-                pattern,
-            } => Item::SearchIn {
-                case: *case,
-                name_pattern: name_pattern.as_slice(),
-                pattern: pattern.as_slice(),
-            },
-            Texts::Find { words } => Item::Find {
-                request: words.as_slice(),
-            },
-        }
+        &self.texts
     }
 
     /// Whether both ask for the same.

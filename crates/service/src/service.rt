@@ -3,11 +3,10 @@
 ghost use Rattle.std.specs.Prelude.{◌≡◌, ◌≢◌, ℕ, ◌+◌, ◌<◌, ◌≤◌, ◌^◌, ◌⊎◌, List, [], ◌∷◌, All, length, Some, Contains, MatchBool, IfSome, IfNone, IfOk, OnOk, OnErr, true, is_some, take, slice_get};
 ghost use mathlib.Core.List.{IsPrefix};
 ghost use Rattle.index.specs.State.{state_of};
-ghost use Rattle.index.specs.Text.{greatest_body};
 ghost use Rattle.prepare.specs.Prepared.{request_of};
 ghost use Rattle.search.specs.Shown.{IsShownOf};
-ghost use Rattle.script.specs.Items.{numbered as numbered_item, cancel as cancel_item};
-ghost use Rattle.script.specs.Reading.{shown_item};
+ghost use Rattle.input.specs.Owned.{ShowsOwned};
+ghost use Rattle.script.specs.Items.{Item, numbered, cancel as cancel_item};
 ghost use Rattle.published.specs.Counts.{AreCountsOf};
 ghost use Rattle.published.specs.Desk.{desk_state};
 ghost use Rattle.published.specs.History.{known, Known};
@@ -17,13 +16,11 @@ ghost use Rattle.steps.specs.LegalRows.{status_entry};
 ghost use Rattle.steps.specs.Rows.{searches_of, version_in, failures_in};
 ghost use Rattle.steps.specs.Steps.{OpenSearch as OpenSearchValue, last_of};
 ghost use Rattle.service.specs.Collected.{number_in};
-ghost use Rattle.service.specs.Service.{ServiceState, Takes, TakesPut, Gives, IsFound, IsCounted, written_by, failures_by, IsKind, HasNumber};
+ghost use Rattle.service.specs.Service.{ServiceState, Takes, Gives, IsFound, IsCounted, written_by, failures_by, IsKind, HasNumber};
 ghost use Rattle.service.specs.Private.Closing.{CanClose, IsUnused, IsAsked, IsRefused, IsCancelled, IsPlaceOf, IsGivenUp, IsOwnEntry, with_kept, with_search};
 
 use crate::done::Done;
-use crate::items::{
-    Outcome, carry_out, entry_of, put_read, reason_of_long_put, reason_of_lost_put,
-};
+use crate::items::{Outcome, carry_out};
 use crate::naming::Naming;
 use crate::open_search::OpenSearch;
 use crate::question::Question;
@@ -32,9 +29,9 @@ use crate::source::Source;
 use crate::taken::Taken;
 use crate::tasks::{Request, Task};
 use crate::wish::{Look, Wish};
+use input::ReadItem;
 use prepare::Prepared;
 use published::{Counts, Desk, Reading, Told};
-use script::{Item, Numbered};
 use search::Unanswered;
 use std::alloc::{AllocError, Global};
 use std::collections::VecDeque;
@@ -44,6 +41,9 @@ use std::time::Clock;
 use steps::Last;
 use transcript::{Entry, Reason, SearchReason};
 use views::Shown;
+
+/// About how many bytes of bodies the second copy of the index gets at a time. A piece takes a few milliseconds.
+const PIECE: usize = 262_144;
 
 /// The accepted commands, what was published last, and the open searches. It takes items and answers, one after the
 /// other, and says which entry each gets.
@@ -63,8 +63,6 @@ pub struct Service<J: Naming> {
     awaited: Vec<OpenSearch>,
     /// The last answer of each reader, reader 0 first.
     lasts: Vec<Last>,
-    /// Whether one of the two copies of the index lacks what was published last.
-    behind: bool,
     /// How many milliseconds a search has at most, if there is such a limit.
     search_ms: Option<u32>,
     of: PhantomData<J>,
@@ -109,7 +107,6 @@ impl<J: Naming> Service<J> {
             searches: 0,
             awaited: Vec::new(alloc),
             lasts,
-            behind: false,
             search_ms,
             of: PhantomData,
         }
@@ -143,12 +140,12 @@ impl<J: Naming> Service<J> {
         rt: &R,
         alloc: Global,
         source: &mut S,
-        item: Numbered<'_>,
+        read: ReadItem,
     ) -> Taken
         requires { self.old.searches + 1 < 2 ^ 32 }
-        ensures takes { Takes (S.holds source.old) self.old (numbered_item item.entry.line (shown_item item.entry.item))
-            (written_by result) self.new }
-        ensures kind { IsKind (shown_item item.entry.item) result }
+        ensures takes { (shown : Item) → ShowsOwned read.item shown
+            → Takes (S.holds source.old) self.old (numbered read.line shown) (written_by result) self.new }
+        ensures kind { (shown : Item) → ShowsOwned read.item shown → IsKind shown result }
         ensures number { HasNumber self.new.searches result }
         ensures counted { IsCounted (failures_by result) (S.failed source.old) (S.failed source.new) }
         ensures no_less { S.failed source.old ≤ S.failed source.new }
@@ -156,42 +153,17 @@ impl<J: Naming> Service<J> {
             × (S.holds source.old path body → S.holds source.new path body) }
         ensures few { self.new.searches ≤ self.old.searches + 1 }
     {
-        match carry_out(rt, alloc, &mut self.desk, &mut self.told, source, item) {
+        let line = read.line;
+        match carry_out(rt, alloc, &mut self.desk, &mut self.told, source, read) {
             Outcome::Entry(entry) => {
                 self.note(&entry);
                 Taken::Entry(entry)
             }
-            Outcome::Search => self.ask(rt, alloc, item.item),
+            Outcome::Search(question) => self.ask(rt, alloc, question),
             Outcome::Sync => Taken::Nothing,
-            Outcome::Cancel(number) => self.cancel(item.line, number),
-            Outcome::Status => Taken::Entry(self.status(rt, item.line)),
+            Outcome::Cancel(number) => self.cancel(line, number),
+            Outcome::Status => Taken::Entry(self.status(rt, line)),
         }
-    }
-
-    /// Takes the put on this line, with these bytes as the body. If it is accepted, the service keeps the bytes.
-    /// Otherwise the entry has the first cause: the fault of the name, the fault of the body, or `Full`; or
-    /// `OutOfMemory`.
-    pub fn put(&mut self, alloc: Global, line: u32, name: &[u8], body: Vec<u8>) -> Entry
-        ensures takes { TakesPut self.old name.now body.items line result self.new }
-        ensures searches { self.new.searches ≡ self.old.searches }
-    {
-        entry_of(line, put_read(alloc, &mut self.desk, name, body))
-    }
-
-    /// Takes a put of over `index::MAX_BODY` bytes, which were not kept. It is refused for its name, if that is not valid,
-    /// and otherwise for its body. If memory runs out for the name, the entry says that.
-    pub fn refuse_long_put(&self, alloc: Global, line: u32, name: &[u8]) -> Entry
-        ensures { (body : List ℕ) → greatest_body < length body → TakesPut self.now name.now body line result self.now }
-    {
-        entry_of(line, Err(reason_of_long_put(alloc, name)))
-    }
-
-    /// Takes a put whose bytes there was no memory for. It is refused for its name, if that is not valid, and otherwise for
-    /// lack of memory.
-    pub fn refuse_lost_put(&self, alloc: Global, line: u32, name: &[u8]) -> Entry
-        ensures { (body : List ℕ) → TakesPut self.now name.now body line result self.now }
-    {
-        entry_of(line, Err(reason_of_lost_put(alloc, name)))
     }
 
     /// Keeps the version of a publish, and drops the kept versions that no open search can get any more.
@@ -203,7 +175,6 @@ impl<J: Naming> Service<J> {
             let least = self.least_needed(*version);
             forget_below(&mut self.kept, least);
             keep(&mut self.kept, *version);
-            self.behind = true;
         }
     }
 
@@ -216,12 +187,12 @@ impl<J: Naming> Service<J> {
     }
 
     /// Takes a search: it is open then, or refused.
-    fn ask<R: Clock>(&mut self, rt: &R, alloc: Global, item: Item<'_>) -> Taken
+    fn ask<R: Clock>(&mut self, rt: &R, alloc: Global, question: Question) -> Taken
         requires few { self.old.searches + 1 < 2 ^ 32 }
-        requires search { searches_of (shown_item item) ≡ 1 }
-        ensures { IsAsked (shown_item item.entry) self.old result self.new }
+        requires search { searches_of question ≡ 1 }
+        ensures { IsAsked question self.old result self.new }
     {
-        match Request::read(alloc, item) {
+        match Request::read(alloc, question) {
             Ok(request) => self.open(rt, alloc, request),
             Err(reason) => self.refuse(reason),
         }
@@ -422,7 +393,10 @@ impl<J: Naming> Service<J> {
         ensures own { IsOwnEntry self.old.awaited place result }
         ensures searches { self.new.searches ≡ self.old.searches }
     {
-        match Request::read(alloc, self.awaited[place].question.lend()) {
+        let Ok(question) = self.awaited[place].question.again(alloc) else {
+            return self.refuse_at(place, SearchReason::OutOfMemory);
+        };
+        match Request::read(alloc, question) {
             Ok(request) => self.answer_at(rt, alloc, place, &request),
             Err(_) => self.refuse_at(place, SearchReason::OutOfMemory),
         }
@@ -505,24 +479,15 @@ impl<J: Naming> Service<J> {
         }
     }
 
-    /// Brings both copies of the index up to date after a publish, so that the next one has nothing of it left to do. It is
-    /// for a time when nothing else waits. It does nothing if a command was accepted since, or if a search is open that was
-    /// asked since: its answer comes first.
-    pub fn catch_up<R: Wait>(&mut self, rt: &R)
+    /// Brings the copy of the index that is not searched further up to date, ahead of the next publish, by a piece of
+    /// `PIECE` bytes of bodies or one command. Returns whether more is left. It is for a time when no event is ready: one that
+    /// comes meanwhile waits for this piece alone.
+    ///
+    /// The first piece after a publish waits for searches that are taking their candidates from that copy.
+    pub fn catch_up<R: Wait>(&mut self, rt: &R) -> bool
         ensures { self.new ≡ self.old }
     {
-        if self.behind && self.told.version() == self.desk.accepted() && !self.is_asked() {
-            self.behind = false;
-            let _ = self.desk.publish(rt);
-        }
-    }
-
-    /// Whether a search is open that was asked after the last publish.
-    fn is_asked(&self) -> bool {
-        match self.awaited.last() {
-            Some(search) => search.least == self.told.version(),
-            None => false,
-        }
+        self.desk.catch_up(rt, PIECE)
     }
 
     /// Ends the service. Its readers give up the searches that are open, and afterwards find nothing any more.
@@ -535,7 +500,6 @@ impl<J: Naming> Service<J> {
             searches: _,
             awaited,
             lasts: _,
-            behind: _,
             search_ms: _,
             of: _,
         } = self;

@@ -3,17 +3,15 @@
 ghost use Rattle.std.specs.Prelude.{◌≡◌, IfOk, IfErr};
 ghost use Rattle.prepare.specs.Prepared.{request_of};
 ghost use Rattle.script.specs.Items.{find};
-ghost use Rattle.script.specs.Reading.{shown_item};
-ghost use Rattle.steps.specs.Rows.{searches_of};
 ghost use Rattle.steps.specs.Asked.{Asks, IsFaultOf};
+ghost use Rattle.service.specs.Private.Requests.{search_of};
 ghost use Rattle.service.specs.Private.Entries.{IsReasonOfWords, reason_of_fault, reason_of_find};
 
-use crate::question::Question;
+use crate::question::{Question, Texts};
 use crate::wish::Wish;
 use ere::{EreError, EreErrorKind};
 use prepare::{FindError, Prepared};
 use request::{FindFault, read_find};
-use script::Item;
 use std::alloc::Global;
 use std::marker::Model;
 use transcript::SearchReason;
@@ -49,40 +47,36 @@ impl Request {
     ///
     /// An `Err` says why it is refused: for the first fault of its options, of its name patterns or of its pattern, in
     /// this order, or since memory ran out.
-    pub(crate) fn read(alloc: Global, item: Item<'_>) -> Result<Request, SearchReason>
-        requires { searches_of (shown_item item) ≡ 1 }
-        ensures ok { IfOk result (λ request. request.item ≡ shown_item item.entry) }
-        ensures err { IfErr result (IsFaultOf (shown_item item.entry)) }
+    pub(crate) fn read(alloc: Global, question: Question) -> Result<Request, SearchReason>
+        ensures ok { IfOk result (λ request. request.item ≡ question) }
+        ensures err { IfErr result (IsFaultOf question) }
     {
-        let prepared = prepare(alloc, item)?;
-        match Question::of(alloc, item) {
-            Ok(Some(question)) => Ok(Request { question, prepared }),
-            _ => Err(SearchReason::OutOfMemory),
+        match prepare(alloc, question.texts()) {
+            Ok(prepared) => Ok(Request { question, prepared }),
+            Err(reason) => Err(reason),
         }
     }
 }
 
 /// Reads the patterns of a search. An `Err` says why it is refused.
-fn prepare(alloc: Global, item: Item<'_>) -> Result<Prepared, SearchReason>
-    requires { searches_of (shown_item item) ≡ 1 }
-    ensures ok { IfOk result (λ prepared. Asks (shown_item item.entry) (request_of prepared)) }
-    ensures err { IfErr result (IsFaultOf (shown_item item.entry)) }
+fn prepare(alloc: Global, texts: &Texts) -> Result<Prepared, SearchReason>
+    ensures ok { IfOk result (λ prepared. Asks (search_of texts.now) (request_of prepared)) }
+    ensures err { IfErr result (IsFaultOf (search_of texts.now)) }
 {
-    match item {
-        Item::Search { case, pattern } => match Prepared::with_case(alloc, pattern, case) {
+    match texts {
+        Texts::Search { case, pattern } => match Prepared::with_case(alloc, pattern, *case) {
             Ok(prepared) => Ok(prepared),
             Err(error) => Err(reason_of_fault(false, error)),
         },
-        Item::SearchIn {
+        Texts::SearchIn {
             case,
             name_pattern,
             pattern,
-        } => match Prepared::within_with_case(alloc, name_pattern, pattern, case) {
+        } => match Prepared::within_with_case(alloc, name_pattern, pattern, *case) {
             Ok(prepared) => Ok(prepared),
             Err(error) => Err(reason_of_fault(error.in_name, error.error)),
         },
-        Item::Find { request } => prepare_find(alloc, request),
-        _ => Err(SearchReason::OutOfMemory),
+        Texts::Find { words } => prepare_find(alloc, words),
     }
 }
 

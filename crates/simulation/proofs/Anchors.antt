@@ -1,13 +1,13 @@
--- Parts whose words begin at the line's start only.
+-- Nodes whose words begin at the line's start only.
 use Rattle.std.proofs.Common.{◌≡◌, ℕ, ◌<◌, ◌≤◌, Bool, true, false, not, ◌||◌, ◌&&◌, ◌==◌, if◌then◌else◌, IsTrue, List, length, ◌↔◌, inl, inr, refl, sym, ap, ◌∙◌, arith}
 use Rattle.std.proofs.lemmas.Bool.Decides.{nat_tests}
 use Rattle.spans.proofs.Bits.{false≢true}
-use Rattle.simulation.specs.declared.ends.Wanted.{Wanted}
-use Rattle.simulation.specs.declared.part.Counts.{Counts}
-use Rattle.simulation.specs.declared.part.Gaps.{Gaps}
-use Rattle.simulation.specs.declared.part.Places.{Places}
-use Rattle.simulation.specs.declared.part.Sizes.{Sizes}
-use Rattle.simulation.specs.Parts.{Shape, nothing, set, run, both, either, loop, times, begins_at_start, is_gap, Chain, Reads}
+use Rattle.simulation.specs.declared.ends.WordRange.{WordRange}
+use Rattle.simulation.specs.declared.node.RepeatCounts.{RepeatCounts}
+use Rattle.simulation.specs.declared.node.Gaps.{Gaps}
+use Rattle.simulation.specs.declared.node.RunLayout.{RunLayout}
+use Rattle.simulation.specs.declared.node.Sizes.{Sizes}
+use Rattle.simulation.specs.Nodes.{Shape, nothing, set, run, both, either, loop, times, begins_at_start, is_gap, Chain, Reads}
 use Rattle.simulation.specs.Private.Reading.{least_past, HasWanted, IsStart, IsWanted}
 use Rattle.simulation.proofs.Forward.{reads_forward}
 use Rattle.simulation.proofs.Repeats.{reads_inside}
@@ -32,35 +32,35 @@ pub or_goes_on : (first two second : Bool) → first ≡ false → two ≡ secon
 or_goes_on true two second none next = absurd (false≢true (sym none))
 or_goes_on false two second none next = next
 
-pub starts_nothing : (part : Shape) → part ≡ nothing → true ≡ begins_at_start part
+pub starts_nothing : (node : Shape) → node ≡ nothing → true ≡ begins_at_start node
 unfolding begins_at_start
-starts_nothing part e = ap begins_at_start (sym e)
+starts_nothing node e = ap begins_at_start (sym e)
 
-pub starts_set : (part : Shape) (members : List Bool) → part ≡ set members → false ≡ begins_at_start part
+pub starts_set : (node : Shape) (members : List Bool) → node ≡ set members → false ≡ begins_at_start node
 unfolding begins_at_start
-starts_set part members e = ap begins_at_start (sym e)
+starts_set node members e = ap begins_at_start (sym e)
 
-pub starts_run : (part : Shape) (masks : List ℕ) (places : Places) → part ≡ run masks places → false ≡ begins_at_start part
+pub starts_run : (node : Shape) (masks : List ℕ) (places : RunLayout) → node ≡ run masks places → false ≡ begins_at_start node
 unfolding begins_at_start
-starts_run part masks places e = ap begins_at_start (sym e)
+starts_run node masks places e = ap begins_at_start (sym e)
 
-pub starts_both : (part left right : Shape) (sizes : Sizes) (before after : Gaps) → part ≡ both left right sizes before after
-    → (begins_at_start left && (not before.inside || begins_at_start right)) ≡ begins_at_start part
+pub starts_both : (node left right : Shape) (sizes : Sizes) (before after : Gaps) → node ≡ both left right sizes before after
+    → (begins_at_start left && (not before.inside || begins_at_start right)) ≡ begins_at_start node
 unfolding begins_at_start
-starts_both part left right sizes before after e = ap begins_at_start (sym e)
+starts_both node left right sizes before after e = ap begins_at_start (sym e)
 
-pub starts_either : (part left right : Shape) (sizes : Sizes) → part ≡ either left right sizes
-    → (begins_at_start left && begins_at_start right) ≡ begins_at_start part
+pub starts_either : (node left right : Shape) (sizes : Sizes) → node ≡ either left right sizes
+    → (begins_at_start left && begins_at_start right) ≡ begins_at_start node
 unfolding begins_at_start
-starts_either part left right sizes e = ap begins_at_start (sym e)
+starts_either node left right sizes e = ap begins_at_start (sym e)
 
-pub starts_loop : (part body : Shape) (own : ℕ) → part ≡ loop body own → begins_at_start body ≡ begins_at_start part
+pub starts_loop : (node body : Shape) (own : ℕ) → node ≡ loop body own → begins_at_start body ≡ begins_at_start node
 unfolding begins_at_start
-starts_loop part body own e = ap begins_at_start (sym e)
+starts_loop node body own e = ap begins_at_start (sym e)
 
-pub starts_times : (part body : Shape) (counts : Counts) → part ≡ times body counts → begins_at_start body ≡ begins_at_start part
+pub starts_times : (node body : Shape) (counts : RepeatCounts) → node ≡ times body counts → begins_at_start body ≡ begins_at_start node
 unfolding begins_at_start
-starts_times part body counts e = ap begins_at_start (sym e)
+starts_times node body counts e = ap begins_at_start (sym e)
 
 -- A gap before the line's end that is not inside is at its start.
 gap_at_start : (gaps : Gaps) (line : List ℕ) (at : ℕ) → at < length line → IsTrue (not gaps.inside) → IsTrue (is_gap gaps line at) → at ≡ 0
@@ -79,7 +79,7 @@ gap_at_start gaps line at inside none h = go (at == 0) refl
         ∙ ap (λ t. if t then gaps.end else gaps.inside) apart in
         absurd (not_true gaps.inside none (sym is ∙ h))
 
-only_at_start : (line : List ℕ) (part : Shape) (from to : ℕ) → IsTrue (begins_at_start part) → Reads line part from to → from ≡ 0
+only_at_start : (line : List ℕ) (node : Shape) (from to : ℕ) → IsTrue (begins_at_start node) → Reads line node from to → from ≡ 0
 unfolding begins_at_start Chain Reads
 only_at_start line nothing from to is h = absurd h
 only_at_start line (set members) from to is h = absurd (false≢true is)
@@ -103,7 +103,7 @@ only_at_start line (loop body own) from to is h = only_at_start line body from h
 only_at_start line (times body counts) from to is h = only_at_start line body from h.1.0 is h.1.1
 
 -- the words that begin at positions from one on and before another
-abbrev pub words_in : ℕ → ℕ → Bool → Wanted
+abbrev pub words_in : ℕ → ℕ → Bool → WordRange
 words_in first past whole_words = record { first = first; past = past; whole_words = whole_words }
 
 pub past_of : (at_start : Bool) (past cut : ℕ) → cut ≡ least_past at_start past → cut ≤ past
@@ -111,30 +111,30 @@ past_of true past cut e = omega arith
 past_of false past cut e = omega arith
 
 -- Where all begin at the line's start, none is lost.
-pub none_lost : (line : List ℕ) (part : Shape) (at_start whole_words : Bool) (first past cut start end : ℕ) → at_start ≡ begins_at_start part
-    → cut ≡ least_past at_start past → IsWanted line part (words_in first past whole_words) start end
-    → IsWanted line part (words_in first cut whole_words) start end
-none_lost line part at_start whole_words first past cut start end same cut_is is =
+pub none_lost : (line : List ℕ) (node : Shape) (at_start whole_words : Bool) (first past cut start end : ℕ) → at_start ≡ begins_at_start node
+    → cut ≡ least_past at_start past → IsWanted line node (words_in first past whole_words) start end
+    → IsWanted line node (words_in first cut whole_words) start end
+none_lost line node at_start whole_words first past cut start end same cut_is is =
     let begins : IsStart line (words_in first cut whole_words) start =
     record { least = is.begins.least; below = below at_start same cut_is; free = is.begins.free } in
     record { begins = begins; word = is.word; free = is.free }
   where
-    below : (t : Bool) → t ≡ begins_at_start part → cut ≡ least_past t past → start < cut
+    below : (t : Bool) → t ≡ begins_at_start node → cut ≡ least_past t past → start < cut
     below true e c =
-        let zero = only_at_start line part start end (sym e) is.word in
+        let zero = only_at_start line node start end (sym e) is.word in
         let low = is.begins.below in
         omega arith
     below false e c = let low = is.begins.below in omega arith
 
-pub none_lost_at_all : (line : List ℕ) (part : Shape) (at_start found whole_words : Bool) (first past cut : ℕ) → at_start ≡ begins_at_start part
-    → cut ≡ least_past at_start past → IsTrue found ↔ HasWanted line part (words_in first cut whole_words)
-    → IsTrue found ↔ HasWanted line part (words_in first past whole_words)
-none_lost_at_all line part at_start found whole_words first past cut same cut_is has = (
+pub none_lost_at_all : (line : List ℕ) (node : Shape) (at_start found whole_words : Bool) (first past cut : ℕ) → at_start ≡ begins_at_start node
+    → cut ≡ least_past at_start past → IsTrue found ↔ HasWanted line node (words_in first cut whole_words)
+    → IsTrue found ↔ HasWanted line node (words_in first past whole_words)
+none_lost_at_all line node at_start found whole_words first past cut same cut_is has = (
   λ is. let word = has.0 is in (word.0, (word.1.0, wider word.0 word.1.0 word.1.1)),
-  λ word. has.1 (word.0, (word.1.0, none_lost line part at_start whole_words first past cut word.0 word.1.0 same cut_is word.1.1)),
+  λ word. has.1 (word.0, (word.1.0, none_lost line node at_start whole_words first past cut word.0 word.1.0 same cut_is word.1.1)),
 )
   where
-    wider : (start end : ℕ) → IsWanted line part (words_in first cut whole_words) start end → IsWanted line part (words_in first past whole_words) start end
+    wider : (start end : ℕ) → IsWanted line node (words_in first cut whole_words) start end → IsWanted line node (words_in first past whole_words) start end
     wider start end is =
         let low = is.begins.below in
         let least = past_of at_start past cut cut_is in

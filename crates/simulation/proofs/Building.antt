@@ -1,4 +1,4 @@
--- Parts that are built from others.
+-- Nodes that are built from others.
 use Rattle.std.proofs.Common.{◌≡◌, ℕ, zero, suc, ◌+◌, ◌-◌, ◌*◌, ◌<◌, ◌≤◌, Bool, true, false, ◌==◌, if◌then◌else◌, IsTrue, List, length, get_or}
 use Rattle.std.proofs.Common.{Option, Some, None, IfSome, ◌⊎◌, inl, inr, refl, sym, subst, ap, ◌∙◌, arith}
 use Rattle.std.proofs.lemmas.Bool.Decides.{nat_tests}
@@ -7,11 +7,11 @@ use Rattle.std.proofs.lemmas.List.FromFn.{get_or-map-range_with_len}
 use Rattle.ere.specs.ByteSet.{has, is_line_byte, set_of, union}
 use Rattle.ere.specs.Tree.{Tree, alt, repeat, Trees, none, more}
 use Rattle.spans.specs.Spans.{Relation, Spans, SpansSome}
-use Rattle.simulation.specs.declared.part.Gaps.{Gaps}
-use Rattle.simulation.specs.declared.part.Counts.{Counts}
-use Rattle.simulation.specs.declared.part.Sizes.{Sizes}
-use Rattle.simulation.specs.Parts.{Shape, nothing, either, loop, times, is_gap, Chain, Reads, Fits, Suffices}
-use Rattle.simulation.specs.Parts.{set as one_of}
+use Rattle.simulation.specs.declared.node.Gaps.{Gaps}
+use Rattle.simulation.specs.declared.node.RepeatCounts.{RepeatCounts}
+use Rattle.simulation.specs.declared.node.Sizes.{Sizes}
+use Rattle.simulation.specs.Nodes.{Shape, nothing, either, loop, times, is_gap, Chain, Reads, Fits, Suffices}
+use Rattle.simulation.specs.Nodes.{set as one_of}
 use Rattle.simulation.specs.Packing.{IsPacked, StandsFor, nowhere, everywhere, gaps_of_either, gaps_of_times}
 use Rattle.simulation.proofs.Tests.{or_cases, or_left, or_right}
 use Rattle.simulation.proofs.Forward.{reads_forward}
@@ -23,25 +23,25 @@ use Rattle.ere.specs.declared.tree.Ere.{Ere}
 use Rattle.ere.specs.Tree.{form, trees_of}
 use Rattle.simulation.specs.Pending.{IsStride, IsWhole, size_of, words_for}
 use Rattle.simulation.specs.declared.sequence.Packed.{Packed}
-use Rattle.simulation.specs.Parts.{shape}
-use Rattle.simulation.specs.Packing.{IsPartFor, IsSomePart, IsTreePart, IsTurns}
+use Rattle.simulation.specs.Nodes.{shape}
+use Rattle.simulation.specs.Packing.{IsNodeFor, IsSomeNode, IsTreeNode, IsTurns}
 use Rattle.simulation.proofs.Packing.{some_none_packed}
 use Rattle.simulation.proofs.Packing.{Or, either_packed}
 use Rattle.simulation.proofs.Unrolling.{turns_none}
 use Rattle.simulation.proofs.Repeats.{IsEnough, AtMost, repeat_packed, reads_inside}
 
-pub as_part : (words : List ℕ → Relation) (part built : Shape) (gaps given : Gaps) (copies size total : ℕ) → built ≡ part → given ≡ gaps → total ≡ size
-    → IsPartFor words part gaps copies size → IsPartFor words built given copies total
-as_part words part built gaps given copies size total part_is gaps_is size_is h =
-    subst (λ p. IsPartFor words p given copies total) (sym part_is)
-    (subst (λ g. IsPartFor words part g copies total) (sym gaps_is) (subst (λ n. IsPartFor words part gaps copies n) (sym size_is) h))
+pub as_part : (words : List ℕ → Relation) (node built : Shape) (gaps given : Gaps) (copies size total : ℕ) → built ≡ node → given ≡ gaps → total ≡ size
+    → IsNodeFor words node gaps copies size → IsNodeFor words built given copies total
+as_part words node built gaps given copies size total part_is gaps_is size_is h =
+    subst (λ p. IsNodeFor words p given copies total) (sym part_is)
+    (subst (λ g. IsNodeFor words node g copies total) (sym gaps_is) (subst (λ n. IsNodeFor words node gaps copies n) (sym size_is) h))
 
-pub nothing_part : (words : List ℕ → Relation) (gaps : Gaps) (copies : ℕ) → IsPacked words nothing gaps → IsPartFor words nothing gaps copies (words_for copies)
+pub nothing_part : (words : List ℕ → Relation) (gaps : Gaps) (copies : ℕ) → IsPacked words nothing gaps → IsNodeFor words nothing gaps copies (words_for copies)
 unfolding IsWhole size_of
 nothing_part words gaps copies h = record { packed = h; whole = tt; sized = refl }
 
 pub set_part : (words : List ℕ → Relation) (members : List Bool) (gaps : Gaps) (copies : ℕ) → IsPacked words (one_of members) gaps
-    → IsPartFor words (one_of members) gaps copies (words_for copies)
+    → IsNodeFor words (one_of members) gaps copies (words_for copies)
 unfolding IsWhole size_of
 set_part words members gaps copies h = record { packed = h; whole = tt; sized = refl }
 
@@ -55,52 +55,52 @@ gap_of_inside gaps line at some inside start end = go (at == 0) (length line == 
     go false zero_long true e = end
     go false zero_long false e = inside
 
-pub once_part : (body : Tree) (part : Shape) (gaps : Gaps) (least copies size : ℕ) → least ≤ 1 → IsPartFor (λ line. Spans line body) part gaps copies size
-    → IsPartFor (λ line. Spans line (repeat body least (Some 1))) part (gaps_of_times least gaps) copies size
+pub once_part : (body : Tree) (node : Shape) (gaps : Gaps) (least copies size : ℕ) → least ≤ 1 → IsNodeFor (λ line. Spans line body) node gaps copies size
+    → IsNodeFor (λ line. Spans line (repeat body least (Some 1))) node (gaps_of_times least gaps) copies size
 unfolding Chain
-once_part body part gaps least copies size low one = record {
-  packed = repeat_packed body part part gaps least (Some 1) low one.packed
+once_part body node gaps least copies size low one = record {
+  packed = repeat_packed body node node gaps least (Some 1) low one.packed
       (λ line from to r. (0, (to, r, refl), (let small : 1 ≤ 1 = omega arith in small), inl (let few : least ≤ 1 = low in few)))
       (λ line from to words chain fits enough. single line from to words chain fits);
   whole = one.whole;
   sized = one.sized;
 }
   where
-    single : (line : List ℕ) (from to words : ℕ) → Chain (Reads line part) (suc words) from to → AtMost (Some 1) (suc words) → Reads line part from to
-    single line from to zero h fits = subst (λ n. Reads line part from n) h.2 h.1
+    single : (line : List ℕ) (from to words : ℕ) → Chain (Reads line node) (suc words) from to → AtMost (Some 1) (suc words) → Reads line node from to
+    single line from to zero h fits = subst (λ n. Reads line node from n) h.2 h.1
     single line from to (suc words) h fits = absurd (omega arith)
 
-pub loop_part : (body : Tree) (part : Shape) (gaps : Gaps) (least copies size own : ℕ) → least ≤ 1 → own ≡ words_for copies
-    → IsPartFor (λ line. Spans line body) part gaps copies size
-    → IsPartFor (λ line. Spans line (repeat body least None)) (loop part own) (gaps_of_times least gaps) copies size
+pub loop_part : (body : Tree) (node : Shape) (gaps : Gaps) (least copies size own : ℕ) → least ≤ 1 → own ≡ words_for copies
+    → IsNodeFor (λ line. Spans line body) node gaps copies size
+    → IsNodeFor (λ line. Spans line (repeat body least None)) (loop node own) (gaps_of_times least gaps) copies size
 unfolding Reads IsWhole size_of
-loop_part body part gaps least copies size own low own_is one = record {
-  packed = repeat_packed body part (loop part own) gaps least None tt one.packed
+loop_part body node gaps least copies size own low own_is one = record {
+  packed = repeat_packed body node (loop node own) gaps least None tt one.packed
       (λ line from to r. (r.0, r.1, tt, inl (let few : least ≤ suc r.0 = omega arith in few)))
       (λ line from to words chain fits enough. (words, chain));
   whole = (own_is, one.whole);
   sized = one.sized;
 }
 
-pub times_part : (body : Tree) (part : Shape) (gaps : Gaps) (least : ℕ) (greatest : Option ℕ) (turns copies stride all size own total : ℕ) (counts : Counts)
+pub times_part : (body : Tree) (node : Shape) (gaps : Gaps) (least : ℕ) (greatest : Option ℕ) (turns copies stride all size own total : ℕ) (counts : RepeatCounts)
     → IsStride copies stride → all ≡ turns * stride → 1 < turns → IsTurns least greatest turns → own ≡ words_for copies → total ≡ own + size
     → counts.least ≡ (if gaps.inside then 0 else least) → counts.copies ≡ turns → counts.unbounded ≡ is_none greatest
     → counts.gaps ≡ (if gaps.inside then nowhere else gaps) → counts.own ≡ own → counts.stride ≡ stride → counts.all ≡ all
-    → IsPartFor (λ line. Spans line body) part gaps all size
-    → IsPartFor (λ line. Spans line (repeat body least greatest)) (times part counts) (gaps_of_times least gaps) copies total
+    → IsNodeFor (λ line. Spans line body) node gaps all size
+    → IsNodeFor (λ line. Spans line (repeat body least greatest)) (times node counts) (gaps_of_times least gaps) copies total
 unfolding Reads IsWhole size_of
-times_part body part gaps least greatest turns copies stride all size own total counts strides all_is some turned own_is total_is least_is copies_is free_is gaps_is
+times_part body node gaps least greatest turns copies stride all size own total counts strides all_is some turned own_is total_is least_is copies_is free_is gaps_is
     counts_own counts_stride counts_all one = record {
-      packed = repeat_packed body part (times part counts) gaps least greatest (ordered greatest refl) one.packed of_whole to_whole;
+      packed = repeat_packed body node (times node counts) gaps least greatest (ordered greatest refl) one.packed of_whole to_whole;
       whole = (
         counts_own ∙ own_is,
         subst (IsStride copies) (sym counts_stride) strides,
         counts_all ∙ all_is ∙ sym turning,
         (let turning_once : 0 < counts.copies = omega arith in turning_once),
         least_low gaps.inside refl,
-        subst (IsWhole part) (sym body_copies) one.whole,
+        subst (IsWhole node) (sym body_copies) one.whole,
       );
-      sized = ap (λ n. words_for copies + n) (ap (size_of part) body_copies ∙ one.sized) ∙ ap (λ n. n + size) (sym own_is) ∙ sym total_is;
+      sized = ap (λ n. words_for copies + n) (ap (size_of node) body_copies ∙ one.sized) ∙ ap (λ n. n + size) (sym own_is) ∙ sym total_is;
     }
   where
     turning : counts.copies * counts.stride ≡ turns * stride
@@ -172,22 +172,22 @@ times_part body part gaps least greatest turns copies stride all size own total 
     suffices false e line from to words (inr (inr (inr g))) =
         inr (inr (subst (λ v. IsTrue (is_gap v line to)) (sym (gaps_is ∙ ap (λ b. if b then nowhere else gaps) e)) g))
 
-    of_whole : (line : List ℕ) (from to : ℕ) → Reads line (times part counts) from to
-        → (words : ℕ) × Chain (Reads line part) (suc words) from to × AtMost greatest (suc words) × IsEnough line least gaps (suc words) from to
+    of_whole : (line : List ℕ) (from to : ℕ) → Reads line (times node counts) from to
+        → (words : ℕ) × Chain (Reads line node) (suc words) from to × AtMost greatest (suc words) × IsEnough line least gaps (suc words) from to
     of_whole line from to (extra, chain, fits, h) =
-        let past = reads_forward line (times part counts) from to (extra, chain, fits, h) in
-        let inside = reads_inside line (times part counts) from to (extra, chain, fits, h) in
+        let past = reads_forward line (times node counts) from to (extra, chain, fits, h) in
+        let inside = reads_inside line (times node counts) from to (extra, chain, fits, h) in
         (extra, chain, at_most greatest (suc extra) refl fits, enough gaps.inside refl line from to (suc extra) (omega arith) h)
 
-    to_whole : (line : List ℕ) (from to words : ℕ) → Chain (Reads line part) (suc words) from to → AtMost greatest (suc words)
-        → IsTrue gaps.inside ⊎ IsEnough line least gaps (suc words) from to → Reads line (times part counts) from to
+    to_whole : (line : List ℕ) (from to words : ℕ) → Chain (Reads line node) (suc words) from to → AtMost greatest (suc words)
+        → IsTrue gaps.inside ⊎ IsEnough line least gaps (suc words) from to → Reads line (times node counts) from to
     to_whole line from to words chain fits h =
         (words, chain, fits_of greatest (suc words) refl fits, suffices gaps.inside refl line from to (suc words) h)
 
 pub either_part : (tree : Tree) (trees : Trees) (left right : Shape) (before after : Gaps) (sizes : Sizes) (copies first second total : ℕ)
     → sizes.own ≡ words_for copies → sizes.first ≡ first → total ≡ sizes.own + (first + second)
-    → IsPartFor (λ line. Spans line tree) left before copies first → IsPartFor (λ line. SpansSome line trees) right after copies second
-    → IsPartFor (λ line. SpansSome line (more tree trees)) (either left right sizes) (gaps_of_either before after) copies total
+    → IsNodeFor (λ line. Spans line tree) left before copies first → IsNodeFor (λ line. SpansSome line trees) right after copies second
+    → IsNodeFor (λ line. SpansSome line (more tree trees)) (either left right sizes) (gaps_of_either before after) copies total
 unfolding SpansSome Reads IsWhole size_of
 either_part tree trees left right before after sizes copies first second total own_is first_is total_is one two = record {
   packed = base;
@@ -222,9 +222,9 @@ has_union one two byte = go (nat_lt byte 256) refl
 
 -- A byte of either set.
 pub union_part : (tree : Tree) (trees : Trees) (left right : Shape) (one two : List Bool) (before after : Gaps) (copies first second : ℕ)
-    → left ≡ one_of one → right ≡ one_of two → IsPartFor (λ line. Spans line tree) left before copies first
-    → IsPartFor (λ line. SpansSome line trees) right after copies second
-    → IsPartFor (λ line. SpansSome line (more tree trees)) (one_of (union one two)) (gaps_of_either before after) copies first
+    → left ≡ one_of one → right ≡ one_of two → IsNodeFor (λ line. Spans line tree) left before copies first
+    → IsNodeFor (λ line. SpansSome line trees) right after copies second
+    → IsNodeFor (λ line. SpansSome line (more tree trees)) (one_of (union one two)) (gaps_of_either before after) copies first
 unfolding SpansSome Reads IsWhole size_of
 union_part tree trees left right one two before after copies first second left_is right_is head rest =
     record { packed = base; whole = tt; sized = subst (λ p. size_of p copies ≡ first) left_is head.sized }
@@ -248,10 +248,10 @@ union_part tree trees left right one two before after copies first second left_i
         (subst (λ p. IsPacked (λ line. Spans line tree) p before) left_is head.packed)
         (subst (λ p. IsPacked (λ line. SpansSome line trees) p after) right_is rest.packed)
 
--- A word of either part, where the second has none but the empty word.
+-- A word of either node, where the second has none but the empty word.
 pub only_part : (tree : Tree) (trees : Trees) (left right : Shape) (before after : Gaps) (copies first second : ℕ) → right ≡ nothing
-    → IsPartFor (λ line. Spans line tree) left before copies first → IsPartFor (λ line. SpansSome line trees) right after copies second
-    → IsPartFor (λ line. SpansSome line (more tree trees)) left (gaps_of_either before after) copies first
+    → IsNodeFor (λ line. Spans line tree) left before copies first → IsNodeFor (λ line. SpansSome line trees) right after copies second
+    → IsNodeFor (λ line. SpansSome line (more tree trees)) left (gaps_of_either before after) copies first
 unfolding SpansSome Reads
 only_part tree trees left right before after copies first second is_nothing one two = record { packed = base; whole = one.whole; sized = one.sized }
   where
@@ -298,26 +298,26 @@ none_is None false h = absurd (false≢true h)
 none_is (Some x) true h = absurd (false≢true (sym h))
 none_is (Some x) false h = refl
 
-pub alt_part : (trees : Trees) (built : Packed) (copies : ℕ) → IsSomePart trees built copies → IsTreePart (alt trees) built copies
+pub alt_part : (trees : Trees) (built : Packed) (copies : ℕ) → IsSomeNode trees built copies → IsTreeNode (alt trees) built copies
 unfolding Spans
 alt_part trees built copies h = h
 
-pub some_start : (members : List Ere) (i : ℕ) (built : Packed) (copies : ℕ) → length members ≤ i → shape built.part ≡ nothing → built.gaps ≡ nowhere
-    → built.size ≡ words_for copies → IsSomePart (trees_of (map form (drop i members))) built copies
+pub some_start : (members : List Ere) (i : ℕ) (built : Packed) (copies : ℕ) → length members ≤ i → shape built.node ≡ nothing → built.gaps ≡ nowhere
+    → built.size ≡ words_for copies → IsSomeNode (trees_of (map form (drop i members))) built copies
 some_start members i built copies past part_is gaps_is size_is =
-    subst (λ trees. IsSomePart trees built copies) (sym (forms_end members i past))
+    subst (λ trees. IsSomeNode trees built copies) (sym (forms_end members i past))
     (as_part _ nothing _ _ _ copies _ _ part_is gaps_is size_is (nothing_part (λ line. SpansSome line none) nowhere copies some_none_packed))
 
 pub some_more : (members : List Ere) (i : ℕ) (member : Ere) (one rest joined : Packed) (copies : ℕ) → 0 < i → i ≤ length members
-    → member ≡ get_or members (i - 1) member → IsTreePart (form member) one copies → IsSomePart (trees_of (map form (drop i members))) rest copies
-    → ((tree : Tree) (trees : Trees) → IsTreePart tree one copies → IsSomePart trees rest copies → IsSomePart (more tree trees) joined copies)
-    → IsSomePart (trees_of (map form (drop (i - 1) members))) joined copies
+    → member ≡ get_or members (i - 1) member → IsTreeNode (form member) one copies → IsSomeNode (trees_of (map form (drop i members))) rest copies
+    → ((tree : Tree) (trees : Trees) → IsTreeNode tree one copies → IsSomeNode trees rest copies → IsSomeNode (more tree trees) joined copies)
+    → IsSomeNode (trees_of (map form (drop (i - 1) members))) joined copies
 some_more members i member one rest joined copies above within read first others join =
-    subst (λ trees. IsSomePart trees joined copies) (sym (forms_back members i member above within read))
+    subst (λ trees. IsSomeNode trees joined copies) (sym (forms_back members i member above within read))
     (join (form member) (trees_of (map form (drop i members))) first others)
 
-pub alt_result : {E : Type 0} (trees : Trees) (copies : ℕ) (r : Result Packed E) → IfOk r (λ built. IsSomePart trees built copies)
-    → IfOk r (λ built. IsTreePart (alt trees) built copies)
+pub alt_result : {E : Type 0} (trees : Trees) (copies : ℕ) (r : Result Packed E) → IfOk r (λ built. IsSomeNode trees built copies)
+    → IfOk r (λ built. IsTreeNode (alt trees) built copies)
 alt_result trees copies (Ok built) h = alt_part trees built copies h
 alt_result trees copies (Err e) h = tt
 

@@ -1,13 +1,13 @@
--- The cells of a part are its own and those of its members, one after the other.
+-- The cells of a node are its own and those of its members, one after the other.
 use Rattle.std.proofs.Common.{◌≡◌, ℕ, suc, ◌+◌, ◌-◌, ◌*◌, ◌/◌, ◌<◌, ◌≤◌, Bool, ◌&&◌, ◌||◌, IsTrue, List, ◌++◌, length, take, drop, ◌⊎◌, inl, inr}
 use Rattle.std.proofs.Common.{◌↔◌, sym, ap, subst, ◌∙◌, arith, length-drop}
 use Rattle.std.proofs.lemmas.List.{get_or-take, get_or_append_left, take_at, drop_at, length-take-le}
 use Rattle.spans.proofs.Bits.{same_word}
-use Rattle.simulation.specs.declared.part.Gaps.{Gaps}
-use Rattle.simulation.specs.declared.part.Counts.{Counts}
-use Rattle.simulation.specs.declared.part.Places.{Places}
-use Rattle.simulation.specs.declared.part.Sizes.{Sizes}
-use Rattle.simulation.specs.Parts.{Shape, nothing, set, run, both, either, loop, times, is_gap, Suffices}
+use Rattle.simulation.specs.declared.node.Gaps.{Gaps}
+use Rattle.simulation.specs.declared.node.RepeatCounts.{RepeatCounts}
+use Rattle.simulation.specs.declared.node.RunLayout.{RunLayout}
+use Rattle.simulation.specs.declared.node.Sizes.{Sizes}
+use Rattle.simulation.specs.Nodes.{Shape, nothing, set, run, both, either, loop, times, is_gap, Suffices}
 use Rattle.simulation.specs.Pending.{at, room, first_of, second_of, words_for, size_of, IsWhole, IsRun, IsKept, IsReady, Advances, Enters, Enters as enters, AnyTurn, IsStride, IsNarrow, IsNarrow as narrows}
 use Rattle.simulation.proofs.Steps.{both_advances, either_advances, loop_advances, times_advances}
 
@@ -24,8 +24,8 @@ at_front front back k low =
 pub words_hold : (copies : ℕ) → copies ≤ 64 * words_for copies
 words_hold copies = omega arith
 
--- A part has at least its own cells.
-pub own_fit : (part : Shape) (copies : ℕ) → words_for copies ≤ size_of part copies
+-- A node has at least its own cells.
+pub own_fit : (node : Shape) (copies : ℕ) → words_for copies ≤ size_of node copies
 unfolding size_of
 own_fit nothing copies = omega arith
 own_fit (set members) copies = omega arith
@@ -35,7 +35,7 @@ own_fit (either left right sizes) copies = omega arith
 own_fit (loop body own) copies = own_fit body copies
 own_fit (times body counts) copies = omega arith
 
--- The cells are cut into a part's own and those of two members.
+-- The cells are cut into a node's own and those of two members.
 pub record IsCut (sizes : Sizes) (cells own first second : List ℕ) : Type 0 where
   pub own_is : own ≡ take sizes.own cells
   pub first_is : first ≡ first_of sizes cells
@@ -59,7 +59,7 @@ joined_second : (sizes : Sizes) (own first second : List ℕ) → length own ≡
 joined_second sizes own first second own_long first_long =
     ap (drop sizes.first) (drop_at own (first ++ second) sizes.own own_long) ∙ drop_at first second sizes.first first_long
 
--- Two members are ready if the part is.
+-- Two members are ready if the node is.
 pub record AreReady (line : List ℕ) (here : ℕ) (left right : Shape) (sizes : Sizes) (copies : ℕ) (entered cells : List ℕ) : Type 0 where
   pub own : sizes.own ≡ words_for copies
   pub first : sizes.first ≡ size_of left copies
@@ -127,7 +127,7 @@ right_ready line here left right sizes copies entered cells own first second giv
   kept = subst (IsKept line here right copies) (sym cut.second_is) ready.right_kept;
 }
 
--- What was done to the members was done to the part.
+-- What was done to the members was done to the node.
 pub both_stepped : (line : List ℕ) (here next : ℕ) (left right : Shape) (sizes : Sizes) (before after : Gaps) (copies : ℕ)
     (entered cells own first second given_own given_first given_second own' first' second' : List ℕ) (gap gap_next : Bool)
     → IsReady line here (both left right sizes before after) copies entered cells → IsCut sizes cells own first second
@@ -159,8 +159,8 @@ both_stepped line here next left right sizes before after copies entered cells o
     ∙ ap (λ t. at new_second k || (t && at first' k)) (gap_next_is ∙ ap (is_gap after line) next_is)
     ∙ ap (λ v. at new_second k || (is_gap after line (suc here) && at v k)) (sym first_new))
   where
-    parts : AreReady line here left right sizes copies entered cells
-    parts = of_both line here left right sizes before after copies entered cells ready
+    nodes : AreReady line here left right sizes copies entered cells
+    nodes = of_both line here left right sizes before after copies entered cells ready
 
     new_first : List ℕ
     new_first = first_of sizes (own' ++ (first' ++ second'))
@@ -175,7 +175,7 @@ both_stepped line here next left right sizes before after copies entered cells o
     second_new = joined_second sizes own' first' second' own_long first_long
 
     wide : (k : ℕ) → k < copies → k < 64 * sizes.own
-    wide k low = omega (arith, words_hold copies, parts.own)
+    wide k low = omega (arith, words_hold copies, nodes.own)
 
     own_given : (k : ℕ) → k < copies → at given_own k ≡ at entered k
     own_given k low = ap (λ v. at v k) given_is ∙ at_take entered sizes.own k (wide k low)
@@ -202,8 +202,8 @@ either_stepped line here left right sizes copies entered cells own first second 
     at_front own' (first' ++ second') k (omega (arith, wide k low)) ∙ result k (wide k low)
     ∙ ap (λ v. at first' k || at v k) (sym second_new) ∙ ap (λ v. at v k || at new_second k) (sym first_new))
   where
-    parts : AreReady line here left right sizes copies entered cells
-    parts = of_either line here left right sizes copies entered cells ready
+    nodes : AreReady line here left right sizes copies entered cells
+    nodes = of_either line here left right sizes copies entered cells ready
 
     new_first : List ℕ
     new_first = first_of sizes (own' ++ (first' ++ second'))
@@ -218,7 +218,7 @@ either_stepped line here left right sizes copies entered cells own first second 
     second_new = joined_second sizes own' first' second' own_long first_long
 
     wide : (k : ℕ) → k < copies → k < 64 * sizes.own
-    wide k low = omega (arith, words_hold copies, parts.own)
+    wide k low = omega (arith, words_hold copies, nodes.own)
 
     own_given : (k : ℕ) → k < copies → at given_own k ≡ at entered k
     own_given k low = ap (λ v. at v k) given_is ∙ at_take entered sizes.own k (wide k low)
@@ -246,7 +246,7 @@ loop_stepped line here body own copies entered cells given next ready to_body on
     (λ k low. to_body k (omega (arith, words_hold copies, ready.whole.0)))
 
 -- What a repeat's ready state says.
-pub record IsTimesReady (line : List ℕ) (here : ℕ) (body : Shape) (counts : Counts) (copies : ℕ) (entered cells : List ℕ) : Type 0 where
+pub record IsTimesReady (line : List ℕ) (here : ℕ) (body : Shape) (counts : RepeatCounts) (copies : ℕ) (entered cells : List ℕ) : Type 0 where
   pub own : counts.own ≡ words_for copies
   pub stride : IsStride copies counts.stride
   pub all : counts.all ≡ counts.copies * counts.stride
@@ -258,7 +258,7 @@ pub record IsTimesReady (line : List ℕ) (here : ℕ) (body : Shape) (counts : 
   pub cells_all : length cells ≡ words_for copies + size_of body (counts.copies * counts.stride)
   pub body_kept : IsKept line here body (counts.copies * counts.stride) (drop counts.own cells)
 
-pub of_times : (line : List ℕ) (here : ℕ) (body : Shape) (counts : Counts) (copies : ℕ) (entered cells : List ℕ)
+pub of_times : (line : List ℕ) (here : ℕ) (body : Shape) (counts : RepeatCounts) (copies : ℕ) (entered cells : List ℕ)
     → IsReady line here (times body counts) copies entered cells → IsTimesReady line here body counts copies entered cells
 unfolding IsWhole IsKept size_of
 of_times line here body counts copies entered cells ready = record {
@@ -274,7 +274,7 @@ of_times line here body counts copies entered cells ready = record {
   body_kept = ready.kept.1;
 }
 
-pub body_ready : (line : List ℕ) (here : ℕ) (body : Shape) (counts : Counts) (copies : ℕ) (entered cells read given : List ℕ)
+pub body_ready : (line : List ℕ) (here : ℕ) (body : Shape) (counts : RepeatCounts) (copies : ℕ) (entered cells read given : List ℕ)
     → IsTimesReady line here body counts copies entered cells → read ≡ drop counts.own cells → length given + counts.own ≡ length entered
     → IsReady line here body counts.all given read
 body_ready line here body counts copies entered cells read given ready read_is long =
@@ -288,7 +288,7 @@ body_ready line here body counts copies entered cells read given ready read_is l
     })
 
 -- The cells of a stride are among a repeat's own, and those of all turns among its body's.
-pub times_fits : (line : List ℕ) (here : ℕ) (body : Shape) (counts : Counts) (copies : ℕ) (entered cells : List ℕ)
+pub times_fits : (line : List ℕ) (here : ℕ) (body : Shape) (counts : RepeatCounts) (copies : ℕ) (entered cells : List ℕ)
     → IsTimesReady line here body counts copies entered cells
     → (counts.stride ≤ 64 * counts.own) × (counts.all ≤ 64 * (length entered - counts.own)) × (counts.all ≤ 64 * (length cells - counts.own)) × (0 < counts.stride)
 times_fits line here body counts copies entered cells ready =
@@ -318,7 +318,7 @@ times_fits line here body counts copies entered cells ready =
         omega arith
     stride_fits (inr e) = let own = ready.own in omega arith
 
-pub times_stepped : (line : List ℕ) (here next : ℕ) (body : Shape) (counts : Counts) (copies : ℕ)
+pub times_stepped : (line : List ℕ) (here next : ℕ) (body : Shape) (counts : RepeatCounts) (copies : ℕ)
     (entered cells read given_own given own' read' : List ℕ) (lowest : ℕ) (gap : Bool)
     → IsReady line here (times body counts) copies entered cells → read ≡ drop counts.own cells
     → given_own ≡ take counts.own entered → gap ≡ is_gap counts.gaps line here
@@ -334,8 +334,8 @@ times_stepped line here next body counts copies entered cells read given_own giv
     times_advances line here body counts copies entered cells (own' ++ read') given lowest
     (subst (λ v. Advances line here body (counts.copies * counts.stride) given v (drop counts.own (own' ++ read'))) read_is
     (subst (λ v. Advances line here body (counts.copies * counts.stride) given read v) (sym read_new)
-    (subst (λ n. Advances line here body n given read read') parts.all one)))
-    ready.kept parts.stride.fits parts.some parts.ordered
+    (subst (λ n. Advances line here body n given read read') nodes.all one)))
+    ready.kept nodes.stride.fits nodes.some nodes.ordered
     (λ turn k inside low. (
       λ is. from_given turn k low ((to_body turn k inside (wide k low)).0 is),
       λ e. (to_body turn k inside (wide k low)).1 (to_given turn k low e),
@@ -350,17 +350,17 @@ times_stepped line here next body counts copies entered cells read given_own giv
           ∙ (result k (wide k low)).1 (subst (λ v. AnyTurn counts lowest v k) read_new any),
     ))
   where
-    parts : IsTimesReady line here body counts copies entered cells
-    parts = of_times line here body counts copies entered cells ready
+    nodes : IsTimesReady line here body counts copies entered cells
+    nodes = of_times line here body counts copies entered cells ready
 
     read_new : drop counts.own (own' ++ read') ≡ read'
     read_new = drop_at own' read' counts.own own_long
 
     wide : (k : ℕ) → k < copies → k < counts.stride
-    wide k low = let fits = parts.stride.fits in omega arith
+    wide k low = let fits = nodes.stride.fits in omega arith
 
     in_own : (k : ℕ) → k < copies → k < 64 * counts.own
-    in_own k low = omega (arith, words_hold copies, parts.own)
+    in_own k low = omega (arith, words_hold copies, nodes.own)
 
     own_given : (k : ℕ) → k < copies → at given_own k ≡ at entered k
     own_given k low = ap (λ v. at v k) given_is ∙ at_take entered counts.own k (in_own k low)
@@ -389,7 +389,7 @@ pub set_cells_long : (line : List ℕ) (here : ℕ) (members : List Bool) (copie
 unfolding size_of
 set_cells_long line here members copies entered cells ready = ready.cells_all
 
-pub run_long : (line : List ℕ) (here : ℕ) (masks : List ℕ) (places : Places) (copies : ℕ) (entered cells : List ℕ)
+pub run_long : (line : List ℕ) (here : ℕ) (masks : List ℕ) (places : RunLayout) (copies : ℕ) (entered cells : List ℕ)
     → IsReady line here (run masks places) copies entered cells
     → (here < length line) × IsRun masks places copies × (length entered ≡ words_for copies) × (length cells ≡ words_for copies)
 unfolding size_of IsWhole

@@ -1,10 +1,10 @@
--- The or over the turns of a narrow stride: of words first, and then of the parts of a word.
+-- The or over the turns of a narrow stride: of words first, and then of the nodes of a word.
 use Rattle.std.proofs.Common.{◌≡◌, ℕ, zero, suc, ◌+◌, ◌-◌, ◌*◌, ◌/◌, ◌%◌, ◌<◌, ◌≤◌, ◌||◌}
 use Rattle.std.proofs.Common.{IsTrue, List, ◌↔◌, inl, inr, refl, sym, ap, subst, ◌∙◌, arith}
 use Rattle.std.proofs.lemmas.Nat.{mod-mul-add}
 use Rattle.std.proofs.Math.Nat.{mul-le-mul_right}
 use Rattle.ere.specs.Bits.{has_bit}
-use Rattle.simulation.specs.declared.part.Counts.{Counts}
+use Rattle.simulation.specs.declared.node.RepeatCounts.{RepeatCounts}
 use Rattle.simulation.specs.Pending.{at, AnyTurn, IsNarrow, IsNarrow as narrows}
 use Rattle.simulation.specs.Private.Words.{AnyPart, AnyWithin, IsWithin}
 use Rattle.simulation.proofs.Tests.{or_cases, or_left, or_right}
@@ -140,11 +140,11 @@ turn_to turns turn stride k to =
       | inr down ↦ down
     ]
 
--- The parts of the words of some turns are the turns.
-pub parts_are_turns : (counts : Counts) (lowest : ℕ) (read : List ℕ) (word result k : ℕ) → IsNarrow counts.stride → counts.all ≡ counts.copies * counts.stride → k < counts.stride
+-- The nodes of the words of some turns are the turns.
+pub parts_are_turns : (counts : RepeatCounts) (lowest : ℕ) (read : List ℕ) (word result k : ℕ) → IsNarrow counts.stride → counts.all ≡ counts.copies * counts.stride → k < counts.stride
     → ((b : ℕ) → b < 64 → IsTrue (has_bit word b) ↔ AnyWithin (lowest * counts.stride) counts.all read b)
     → IsTrue (has_bit result k) ↔ AnyPart word counts.stride k → IsTrue (has_bit result k) ↔ AnyTurn counts lowest read k
-parts_are_turns counts lowest read word result k narrow all_is low words parts = (λ h. there (parts.0 h), λ any. parts.1 (back any))
+parts_are_turns counts lowest read word result k narrow all_is low words nodes = (λ h. there (nodes.0 h), λ any. nodes.1 (back any))
   where
     there : AnyPart word counts.stride k → AnyTurn counts lowest read k
     there (b, bit, is, set) =
@@ -167,12 +167,12 @@ parts_are_turns counts lowest read word result k narrow all_is low words parts =
         let bit : (turn * counts.stride + k) % 64 < 64 = omega arith in
         let from : lowest * counts.stride ≤ turn * counts.stride = mul-le-mul_right counts.stride above in
         let to : (turn + 1) * counts.stride ≤ counts.copies * counts.stride = mul-le-mul_right counts.stride (omega arith) in
-        let part : (turn * counts.stride + k) % 64 % counts.stride ≡ k =
+        let node : (turn * counts.stride + k) % 64 % counts.stride ≡ k =
         sym (place_in counts.stride ((turn * counts.stride + k) / 64) ((turn * counts.stride + k) % 64) narrow) ∙ ap (λ n. n % counts.stride) same
         ∙ mod-mul-add turn counts.stride k low in (
           (turn * counts.stride + k) % 64,
           bit,
-          part,
+          node,
           (words ((turn * counts.stride + k) % 64) bit).1
               ((turn * counts.stride + k) / 64, (omega arith, omega arith, ap (at read) same ∙ is)),
         )

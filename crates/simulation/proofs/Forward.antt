@@ -2,9 +2,9 @@
 use Rattle.std.proofs.Common.{◌≡◌, ℕ, zero, suc, ◌+◌, ◌*◌, ◌<◌, ◌≤◌, Bool, true, false, List, ◌⊎◌, inl, inr, refl, arith, drop, nat_lt, nat_le}
 use Rattle.std.proofs.lemmas.Bool.Decides.{nat_tests}
 use Rattle.spans.specs.Spans.{Relation}
-use Rattle.simulation.specs.declared.part.Places.{Places}
-use Rattle.simulation.specs.Parts.{Row as rows}
-use Rattle.simulation.specs.Parts.{Shape, nothing, set, run, both, either, loop, times, Chain, Reads, Row}
+use Rattle.simulation.specs.declared.node.RunLayout.{RunLayout}
+use Rattle.simulation.specs.Nodes.{Row as rows}
+use Rattle.simulation.specs.Nodes.{Shape, nothing, set, run, both, either, loop, times, Chain, Reads, Row}
 use Rattle.simulation.specs.Pending.{Pending, first_of, second_of}
 
 pub chain_not_back : (relation : Relation) → ((a b : ℕ) → relation a b → a < b) → (count from to : ℕ) → Chain relation count from to → from ≤ to
@@ -22,13 +22,13 @@ chain_forward relation forward count from to h =
     let rest = chain_not_back relation forward count h.0 to h.2 in
     omega arith
 
-pub row_forward : (line masks : List ℕ) (places : Places) (left from to : ℕ) → Row line masks places left from to → from ≤ to
+pub row_forward : (line masks : List ℕ) (places : RunLayout) (left from to : ℕ) → Row line masks places left from to → from ≤ to
 row_forward line masks places zero from to (rows.done e) = omega arith
 row_forward line masks places (suc left) from to (rows.skips o r) = row_forward line masks places left from to r
 row_forward line masks places (suc left) from to (rows.reads i r) = let on = row_forward line masks places left (suc from) to r in omega arith
 row_forward line masks places left from to (rows.again p i r) = let on = row_forward line masks places left (suc from) to r in omega arith
 
-pub reads_forward : (line : List ℕ) (part : Shape) (from to : ℕ) → Reads line part from to → from < to
+pub reads_forward : (line : List ℕ) (node : Shape) (from to : ℕ) → Reads line node from to → from < to
 unfolding Reads
 reads_forward line nothing from to h = absurd h
 reads_forward line (set members) from to h = let next = h.0 in omega arith
@@ -44,11 +44,11 @@ reads_forward line (either left right sizess) from to (inr h) = reads_forward li
 reads_forward line (loop body own) from to h = chain_forward (Reads line body) (λ a b r. reads_forward line body a b r) h.0 from to h.1
 reads_forward line (times body counts) from to h = chain_forward (Reads line body) (λ a b r. reads_forward line body a b r) h.0 from to h.1
 
-pub chain_on : (line : List ℕ) (part : Shape) (count from to : ℕ) → Chain (Reads line part) count from to → from ≤ to
-chain_on line part count from to h = chain_not_back (Reads line part) (λ a b r. reads_forward line part a b r) count from to h
+pub chain_on : (line : List ℕ) (node : Shape) (count from to : ℕ) → Chain (Reads line node) count from to → from ≤ to
+chain_on line node count from to h = chain_not_back (Reads line node) (λ a b r. reads_forward line node a b r) count from to h
 
-pub pending_forward : (line : List ℕ) (here : ℕ) (part : Shape) (copies : ℕ) (cells : List ℕ) (copy to : ℕ)
-    → Pending line here part copies cells copy to → here ≤ to
+pub pending_forward : (line : List ℕ) (here : ℕ) (node : Shape) (copies : ℕ) (cells : List ℕ) (copy to : ℕ)
+    → Pending line here node copies cells copy to → here ≤ to
 unfolding Pending
 pending_forward line here nothing copies cells copy to h = absurd h
 pending_forward line here (set members) copies cells copy to h = let same = h.1 in omega arith
@@ -76,10 +76,10 @@ pending_forward line here (times body counts) copies cells copy to (turn, middle
     omega arith
 
 -- A chain that leads nowhere has no word.
-pub stays : (line : List ℕ) (part : Shape) (count from to : ℕ) → to ≤ from → Chain (Reads line part) count from to → count ≡ 0
-stays line part zero from to back h = refl
-stays line part (suc count) from to back h =
-    let on = chain_forward (Reads line part) (λ a b r. reads_forward line part a b r) count from to h in
+pub stays : (line : List ℕ) (node : Shape) (count from to : ℕ) → to ≤ from → Chain (Reads line node) count from to → count ≡ 0
+stays line node zero from to back h = refl
+stays line node (suc count) from to back h =
+    let on = chain_forward (Reads line node) (λ a b r. reads_forward line node a b r) count from to h in
     absurd (omega arith)
 
 pub at_or_past : (here there : ℕ) → here ≤ there → (here ≡ there) ⊎ (here < there)

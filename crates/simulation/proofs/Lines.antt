@@ -13,9 +13,9 @@ use Rattle.spans.specs.Sides.{is_word_after}
 use Rattle.spans.specs.Spans.{Spans}
 use Rattle.spans.proofs.Bits.{false≢true, empty_word, position_in, position_set_same}
 use Rattle.spans.proofs.Meaning.{hit_of_spans, spans_of_hit}
-use Rattle.simulation.specs.declared.ends.Wanted.{Wanted}
-use Rattle.simulation.specs.declared.part.Gaps.{Gaps}
-use Rattle.simulation.specs.Parts.{Shape, nothing, set, run, both, either, loop, times, is_gap, Reads}
+use Rattle.simulation.specs.declared.ends.WordRange.{WordRange}
+use Rattle.simulation.specs.declared.node.Gaps.{Gaps}
+use Rattle.simulation.specs.Nodes.{Shape, nothing, set, run, both, either, loop, times, is_gap, Reads}
 use Rattle.simulation.specs.Pending.{at, first_of, second_of, Pending, Tells, IsKept, IsReady, Advances, size_of}
 use Rattle.simulation.specs.Packing.{IsPacked}
 use Rattle.simulation.specs.Private.Reading.{AreClear, Ends, HasRoom, HasWanted, IsLastEnd, IsNextEnd, IsReadTo, IsStart, IsWanted, NoneEndsAfter}
@@ -46,7 +46,7 @@ clear_cell : (cells : List ℕ) (k : ℕ) → AreClear cells → IsTrue (at cell
 clear_cell cells k clear h = false≢true (sym (empty_word cells k (clear (k / 64))) ∙ h)
 
 -- Where no cell is set nothing is pending.
-none_pending : (line : List ℕ) (here : ℕ) (part : Shape) (copies : ℕ) (cells : List ℕ) (k to : ℕ) → AreClear cells → Pending line here part copies cells k to → ⊥
+none_pending : (line : List ℕ) (here : ℕ) (node : Shape) (copies : ℕ) (cells : List ℕ) (k to : ℕ) → AreClear cells → Pending line here node copies cells k to → ⊥
 unfolding Pending
 none_pending line here nothing copies cells k to clear p = p
 none_pending line here (set members) copies cells k to clear p = clear_cell cells k clear p.0
@@ -63,13 +63,13 @@ none_pending line here (loop body own) copies cells k to clear p = none_pending 
 none_pending line here (times body counts) copies cells k to clear p =
     none_pending line here body (counts.copies * counts.stride) (drop counts.own cells) (p.0 * counts.stride + k) p.1 (clear_drop counts.own cells clear) p.4
 
-clear_tells : (line : List ℕ) (here : ℕ) (part : Shape) (copies : ℕ) (cells : List ℕ) → AreClear cells → Tells line here part copies cells
-clear_tells line here part copies cells clear = record {
+clear_tells : (line : List ℕ) (here : ℕ) (node : Shape) (copies : ℕ) (cells : List ℕ) → AreClear cells → Tells line here node copies cells
+clear_tells line here node copies cells clear = record {
   set = λ k low is. absurd (clear_cell cells k clear is);
-  pending = λ k low p. absurd (none_pending line here part copies cells k here clear p);
+  pending = λ k low p. absurd (none_pending line here node copies cells k here clear p);
 }
 
-clear_kept : (line : List ℕ) (here : ℕ) (part : Shape) (copies : ℕ) (cells : List ℕ) → AreClear cells → IsKept line here part copies cells
+clear_kept : (line : List ℕ) (here : ℕ) (node : Shape) (copies : ℕ) (cells : List ℕ) → AreClear cells → IsKept line here node copies cells
 unfolding IsKept
 clear_kept line here nothing copies cells clear = clear_tells line here nothing copies cells clear
 clear_kept line here (set members) copies cells clear = clear_tells line here (set members) copies cells clear
@@ -90,33 +90,33 @@ clear_kept line here (times body counts) copies cells clear = (
   clear_kept line here body (counts.copies * counts.stride) (drop counts.own cells) (clear_drop counts.own cells clear),
 )
 
-pub read_none : (line : List ℕ) (here : ℕ) (part : Shape) (wanted : Wanted) (cells : List ℕ) → here ≡ wanted.first → AreClear cells
-    → IsReadTo line here part wanted cells
-read_none line here part wanted cells at_first clear = record {
+pub read_none : (line : List ℕ) (here : ℕ) (node : Shape) (wanted : WordRange) (cells : List ℕ) → here ≡ wanted.first → AreClear cells
+    → IsReadTo line here node wanted cells
+read_none line here node wanted cells at_first clear = record {
   least = omega arith;
-  kept = clear_kept line here part 1 cells clear;
-  sound = λ to p. absurd (none_pending line here part 1 cells 0 to clear p);
+  kept = clear_kept line here node 1 cells clear;
+  sound = λ to p. absurd (none_pending line here node 1 cells 0 to clear p);
   begun = λ start to begins early late r. let least = begins.least in absurd (omega arith);
 }
 
-pub read_more : (line : List ℕ) (here next : ℕ) (part : Shape) (wanted : Wanted) (held : Bool) (entered cells read : List ℕ) → next ≡ suc here
-    → IsReadTo line here part wanted cells → Advances line here part 1 entered cells read → at entered 0 ≡ held
-    → IsTrue held ↔ IsStart line wanted here → IsReadTo line next part wanted read
-read_more line here next part wanted held entered cells read next_is before step held_is starts = subst (λ n. IsReadTo line n part wanted read) (sym next_is)
+pub read_more : (line : List ℕ) (here next : ℕ) (node : Shape) (wanted : WordRange) (held : Bool) (entered cells read : List ℕ) → next ≡ suc here
+    → IsReadTo line here node wanted cells → Advances line here node 1 entered cells read → at entered 0 ≡ held
+    → IsTrue held ↔ IsStart line wanted here → IsReadTo line next node wanted read
+read_more line here next node wanted held entered cells read next_is before step held_is starts = subst (λ n. IsReadTo line n node wanted read) (sym next_is)
     (record { least = let least = before.least in omega arith; kept = step.kept; sound = sound; begun = begun })
   where
     low : 0 < 1
     low = omega arith
 
-    sound : (to : ℕ) → Pending line (suc here) part 1 read 0 to → (start : ℕ) × IsStart line wanted start × Reads line part start to
+    sound : (to : ℕ) → Pending line (suc here) node 1 read 0 to → (start : ℕ) × IsStart line wanted start × Reads line node start to
     sound to p = elim (step.sound 0 to low p) [ inl old ↦ before.sound to old | inr new ↦ (here, starts.0 (sym held_is ∙ new.0), new.1) ]
 
-    begun : (start to : ℕ) → IsStart line wanted start → start < suc here → suc here ≤ to → Reads line part start to
-        → Pending line (suc here) part 1 read 0 to
+    begun : (start to : ℕ) → IsStart line wanted start → start < suc here → suc here ≤ to → Reads line node start to
+        → Pending line (suc here) node 1 read 0 to
     begun start to begins early late r =
         elim (at_or_past start here (let down : start ≤ here = omega arith in down)) [
           | inl same ↦
-              step.begins 0 to low (held_is ∙ starts.1 (subst (λ n. IsStart line wanted n) same begins)) (subst (λ n. Reads line part n to) same r)
+              step.begins 0 to low (held_is ∙ starts.1 (subst (λ n. IsStart line wanted n) same begins)) (subst (λ n. Reads line node n to) same r)
           | inr past ↦
               (let on : here < to = omega arith in
               let down : here ≤ to = omega arith in
@@ -124,94 +124,94 @@ read_more line here next part wanted held entered cells read next_is before step
         ]
 
 -- The first cell says whether a word ends here that is looked for, if it is free there.
-pub end_here : (line : List ℕ) (here : ℕ) (part : Shape) (wanted : Wanted) (cells : List ℕ) → IsReadTo line here part wanted cells → IsTrue (at cells 0)
-    → IsFalse (wanted.whole_words && is_word_after line here) → Ends line part wanted here
-end_here line here part wanted cells read held free =
+pub end_here : (line : List ℕ) (here : ℕ) (node : Shape) (wanted : WordRange) (cells : List ℕ) → IsReadTo line here node wanted cells → IsTrue (at cells 0)
+    → IsFalse (wanted.whole_words && is_word_after line here) → Ends line node wanted here
+end_here line here node wanted cells read held free =
     let low : 0 < 1 = omega arith in
-    let word = read.sound here ((told line here part 1 cells read.kept).set 0 low held) in
+    let word = read.sound here ((told line here node 1 cells read.kept).set 0 low held) in
     (word.0, record { begins = word.1; word = word.2; free = free })
 
-pub set_here : (line : List ℕ) (here : ℕ) (part : Shape) (wanted : Wanted) (cells : List ℕ) → IsReadTo line here part wanted cells → Ends line part wanted here
+pub set_here : (line : List ℕ) (here : ℕ) (node : Shape) (wanted : WordRange) (cells : List ℕ) → IsReadTo line here node wanted cells → Ends line node wanted here
     → IsTrue (at cells 0)
-set_here line here part wanted cells read ends =
+set_here line here node wanted cells read ends =
     let low : 0 < 1 = omega arith in
-    let on = reads_forward line part ends.0 here ends.1.word in
+    let on = reads_forward line node ends.0 here ends.1.word in
     let down : here ≤ here = omega arith in
-    (told line here part 1 cells read.kept).pending 0 low (read.begun ends.0 here ends.1.begins on down ends.1.word)
+    (told line here node 1 cells read.kept).pending 0 low (read.begun ends.0 here ends.1.begins on down ends.1.word)
 
 not_true : (t : Bool) → IsTrue (not t) → IsFalse t
 not_true true e = absurd (false≢true e)
 not_true false e = refl
 
-pub none_next : (line : List ℕ) (from here next : ℕ) (part : Shape) (wanted : Wanted) (cells : List ℕ) (ended : Bool) → next ≡ suc here
-    → ((other : ℕ) → from < other → Ends line part wanted other → here < other) → IsReadTo line next part wanted cells
+pub none_next : (line : List ℕ) (from here next : ℕ) (node : Shape) (wanted : WordRange) (cells : List ℕ) (ended : Bool) → next ≡ suc here
+    → ((other : ℕ) → from < other → Ends line node wanted other → here < other) → IsReadTo line next node wanted cells
     → ended ≡ (at cells 0 && not (wanted.whole_words && is_word_after line next)) → ended ≡ false
-    → (other : ℕ) → from < other → Ends line part wanted other → next < other
-none_next line from here next part wanted cells ended next_is none read ended_is unset other after ends =
+    → (other : ℕ) → from < other → Ends line node wanted other → next < other
+none_next line from here next node wanted cells ended next_is none read ended_is unset other after ends =
     let behind = none other after ends in
     elim (at_or_past next other (let down : next ≤ other = omega arith in down)) [
       | inr past ↦ past
       | inl same ↦
-          (let there = subst (λ n. Ends line part wanted n) (sym same) ends in
-          absurd (false≢true (sym unset ∙ ended_is ∙ ap (λ t. t && not (wanted.whole_words && is_word_after line next)) (set_here line next part wanted cells read there)
+          (let there = subst (λ n. Ends line node wanted n) (sym same) ends in
+          absurd (false≢true (sym unset ∙ ended_is ∙ ap (λ t. t && not (wanted.whole_words && is_word_after line next)) (set_here line next node wanted cells read there)
           ∙ ap not there.1.free)))
     ]
 
-pub end_found : (line : List ℕ) (from here next : ℕ) (part : Shape) (wanted : Wanted) (cells : List ℕ) (ended : Bool) → next ≡ suc here → from ≤ here
-    → ((other : ℕ) → from < other → Ends line part wanted other → here < other) → IsReadTo line next part wanted cells
+pub end_found : (line : List ℕ) (from here next : ℕ) (node : Shape) (wanted : WordRange) (cells : List ℕ) (ended : Bool) → next ≡ suc here → from ≤ here
+    → ((other : ℕ) → from < other → Ends line node wanted other → here < other) → IsReadTo line next node wanted cells
     → ended ≡ (at cells 0 && not (wanted.whole_words && is_word_after line next)) → IsTrue ended
-    → IsNextEnd line part wanted from next
-end_found line from here next part wanted cells ended next_is on none read ended_is is = record {
+    → IsNextEnd line node wanted from next
+end_found line from here next node wanted cells ended next_is on none read ended_is is = record {
   after = omega arith;
   ends =
-      end_here line next part wanted cells read (and_left (at cells 0) (not (wanted.whole_words && is_word_after line next)) (sym ended_is ∙ is))
+      end_here line next node wanted cells read (and_left (at cells 0) (not (wanted.whole_words && is_word_after line next)) (sym ended_is ∙ is))
       (not_true (wanted.whole_words && is_word_after line next) (and_right (at cells 0) (not (wanted.whole_words && is_word_after line next)) (sym ended_is ∙ is)));
   next = λ other after ends. let behind = none other after ends in omega arith;
 }
 
 -- Where no cell is set, and no word can begin any more, none ends later.
-pub none_later : (line : List ℕ) (from here : ℕ) (part : Shape) (wanted : Wanted) (cells : List ℕ)
-    → ((other : ℕ) → from < other → Ends line part wanted other → here < other) → IsReadTo line here part wanted cells → wanted.past ≤ here → AreClear cells
-    → NoneEndsAfter line part wanted from
-none_later line from here part wanted cells none read past clear end after ends =
+pub none_later : (line : List ℕ) (from here : ℕ) (node : Shape) (wanted : WordRange) (cells : List ℕ)
+    → ((other : ℕ) → from < other → Ends line node wanted other → here < other) → IsReadTo line here node wanted cells → wanted.past ≤ here → AreClear cells
+    → NoneEndsAfter line node wanted from
+none_later line from here node wanted cells none read past clear end after ends =
     let behind = none end after ends in
     let below = ends.1.begins.below in
     let early : ends.0 < here = omega arith in
     let late : here ≤ end = omega arith in
-    none_pending line here part 1 cells 0 end clear (read.begun ends.0 end ends.1.begins early late ends.1.word)
+    none_pending line here node 1 cells 0 end clear (read.begun ends.0 end ends.1.begins early late ends.1.word)
 
-pub none_past : (line : List ℕ) (from here : ℕ) (part : Shape) (wanted : Wanted) → ((other : ℕ) → from < other → Ends line part wanted other → here < other)
-    → length line ≤ here → NoneEndsAfter line part wanted from
-none_past line from here part wanted none past end after ends =
+pub none_past : (line : List ℕ) (from here : ℕ) (node : Shape) (wanted : WordRange) → ((other : ℕ) → from < other → Ends line node wanted other → here < other)
+    → length line ≤ here → NoneEndsAfter line node wanted from
+none_past line from here node wanted none past end after ends =
     let behind = none end after ends in
-    let inside = reads_inside line part ends.0 end ends.1.word in
+    let inside = reads_inside line node ends.0 end ends.1.word in
     omega arith
 
-pub last_of : (line : List ℕ) (part : Shape) (wanted : Wanted) (last : ℕ) → Ends line part wanted last → NoneEndsAfter line part wanted last
-    → IsLastEnd line part wanted last
-last_of line part wanted last ends none = record { ends = ends; last = λ other there. up other there (le_or_lt other last) }
+pub last_of : (line : List ℕ) (node : Shape) (wanted : WordRange) (last : ℕ) → Ends line node wanted last → NoneEndsAfter line node wanted last
+    → IsLastEnd line node wanted last
+last_of line node wanted last ends none = record { ends = ends; last = λ other there. up other there (le_or_lt other last) }
   where
-    up : (other : ℕ) → Ends line part wanted other → (other ≤ last) ⊎ (last < other) → other ≤ last
+    up : (other : ℕ) → Ends line node wanted other → (other ≤ last) ⊎ (last < other) → other ≤ last
     up other there (inl low) = low
     up other there (inr high) = absurd (none other high there)
 
 -- A word that is looked for ends after the least position.
-pub ends_after : (line : List ℕ) (part : Shape) (wanted : Wanted) (start end : ℕ) → IsWanted line part wanted start end → wanted.first < end
-ends_after line part wanted start end is =
+pub ends_after : (line : List ℕ) (node : Shape) (wanted : WordRange) (start end : ℕ) → IsWanted line node wanted start end → wanted.first < end
+ends_after line node wanted start end is =
     let least = is.begins.least in
-    let on = reads_forward line part start end is.word in
+    let on = reads_forward line node start end is.word in
     omega arith
 
 -- less of the line is left after it
-pub nearer : (line : List ℕ) (part : Shape) (wanted : Wanted) (from end : ℕ) → IsNextEnd line part wanted from end
+pub nearer : (line : List ℕ) (node : Shape) (wanted : WordRange) (from end : ℕ) → IsNextEnd line node wanted from end
     → length line - end < length line - from
-nearer line part wanted from end next =
+nearer line node wanted from end next =
     let after = next.after in
-    let inside = reads_inside line part next.ends.0 end next.ends.1.word in
+    let inside = reads_inside line node next.ends.0 end next.ends.1.word in
     omega arith
 
-pub none_at_all : (line : List ℕ) (part : Shape) (wanted : Wanted) → NoneEndsAfter line part wanted wanted.first → HasWanted line part wanted → ⊥
-none_at_all line part wanted none (start, (end, is)) = none end (ends_after line part wanted start end is) (start, is)
+pub none_at_all : (line : List ℕ) (node : Shape) (wanted : WordRange) → NoneEndsAfter line node wanted wanted.first → HasWanted line node wanted → ⊥
+none_at_all line node wanted none (start, (end, is)) = none end (ends_after line node wanted start end is) (start, is)
 
 -- The empty word in a line is at its start or its end too.
 gap_at_ends : (gaps : Gaps) (line : List ℕ) (place : ℕ) → (IsTrue gaps.inside → IsTrue gaps.start × IsTrue gaps.end) → place ≤ length line
@@ -229,30 +229,30 @@ gap_at_ends gaps line place steady low h =
     start s false e = inl (ap (λ b. if b then gaps.alone else gaps.start) e ∙ s)
 
 -- A match is a word or a gap at the start or the end.
-pub match_to : (line : List ℕ) (tree : Tree) (part : Shape) (gaps : Gaps) → IsPacked (λ line. Spans line tree) part gaps → ContainsMatch tree line
-    → (IsTrue (is_gap gaps line 0) ⊎ IsTrue (is_gap gaps line (length line))) ⊎ HasWanted line part (record { first = 0; past = length line; whole_words = false })
-match_to line tree part gaps packed hit =
+pub match_to : (line : List ℕ) (tree : Tree) (node : Shape) (gaps : Gaps) → IsPacked (λ line. Spans line tree) node gaps → ContainsMatch tree line
+    → (IsTrue (is_gap gaps line 0) ⊎ IsTrue (is_gap gaps line (length line))) ⊎ HasWanted line node (record { first = 0; past = length line; whole_words = false })
+match_to line tree node gaps packed hit =
     let spans = spans_of_hit line tree hit in
     elim (at_or_past spans.0 spans.1 (packed.forward line spans.0 spans.1 spans.3)) [
       | inl same ↦
           inl (gap_at_ends gaps line spans.0 packed.steady spans.2 (packed.gap line spans.0 (subst (λ n. Spans line tree spans.0 n) (sym same) spans.3)))
       | inr past ↦
           (let word = packed.complete line spans.0 spans.1 past spans.3 in
-          let inside = reads_inside line part spans.0 spans.1 word in
+          let inside = reads_inside line node spans.0 spans.1 word in
           let begins : IsStart line (record { first = 0; past = length line; whole_words = false }) spans.0 =
           record { least = omega arith; below = omega arith; free = refl } in
           inr (spans.0, (spans.1, record { begins = begins; word = word; free = refl })))
     ]
 
-pub match_of_gap : (line : List ℕ) (tree : Tree) (part : Shape) (gaps : Gaps) (place : ℕ) → IsPacked (λ line. Spans line tree) part gaps → place ≤ length line
+pub match_of_gap : (line : List ℕ) (tree : Tree) (node : Shape) (gaps : Gaps) (place : ℕ) → IsPacked (λ line. Spans line tree) node gaps → place ≤ length line
     → IsTrue (is_gap gaps line place) → ContainsMatch tree line
-match_of_gap line tree part gaps place packed low g = hit_of_spans line tree place place low (packed.empty line place g)
+match_of_gap line tree node gaps place packed low g = hit_of_spans line tree place place low (packed.empty line place g)
 
-pub match_of_word : (line : List ℕ) (tree : Tree) (part : Shape) (gaps : Gaps) (wanted : Wanted) → IsPacked (λ line. Spans line tree) part gaps
-    → HasWanted line part wanted → ContainsMatch tree line
-match_of_word line tree part gaps wanted packed (start, (end, is)) =
-    let past = reads_forward line part start end is.word in
-    let inside = reads_inside line part start end is.word in
+pub match_of_word : (line : List ℕ) (tree : Tree) (node : Shape) (gaps : Gaps) (wanted : WordRange) → IsPacked (λ line. Spans line tree) node gaps
+    → HasWanted line node wanted → ContainsMatch tree line
+match_of_word line tree node gaps wanted packed (start, (end, is)) =
+    let past = reads_forward line node start end is.word in
+    let inside = reads_inside line node start end is.word in
     hit_of_spans line tree start end (omega arith) (packed.sound line start end is.word)
 
 pub first_is : (cells : List ℕ) → (bit_and (get_or cells 0 0) 1 == 1) ≡ at cells 0
@@ -271,27 +271,27 @@ first_held held word cells some word_is =
     whole true = refl
     whole false = refl
 
-pub ready_to_read : (line : List ℕ) (here : ℕ) (part : Shape) (wanted : Wanted) (entered cells new_entered new_cells : List ℕ) → HasRoom part entered cells
-    → length new_entered ≡ length entered → length new_cells ≡ length cells → here < length line → IsReadTo line here part wanted new_cells
-    → IsReady line here part 1 new_entered new_cells
-ready_to_read line here part wanted entered cells new_entered new_cells room same_entered same_cells inside read =
+pub ready_to_read : (line : List ℕ) (here : ℕ) (node : Shape) (wanted : WordRange) (entered cells new_entered new_cells : List ℕ) → HasRoom node entered cells
+    → length new_entered ≡ length entered → length new_cells ≡ length cells → here < length line → IsReadTo line here node wanted new_cells
+    → IsReady line here node 1 new_entered new_cells
+ready_to_read line here node wanted entered cells new_entered new_cells room same_entered same_cells inside read =
     record { whole = room.whole; inside = inside; entered_all = same_entered ∙ room.entered_all; cells_all = same_cells ∙ room.cells_all; kept = read.kept }
 
-pub found_after_gap : (line : List ℕ) (tree : Tree) (part : Shape) (gaps : Gaps) → IsPacked (λ line. Spans line tree) part gaps
+pub found_after_gap : (line : List ℕ) (tree : Tree) (node : Shape) (gaps : Gaps) → IsPacked (λ line. Spans line tree) node gaps
     → IsTrue (is_gap gaps line 0 || is_gap gaps line (length line)) → ContainsMatch tree line
-found_after_gap line tree part gaps packed h =
+found_after_gap line tree node gaps packed h =
     elim (or_cases (is_gap gaps line 0) (is_gap gaps line (length line)) h) [
-      | inl g ↦ match_of_gap line tree part gaps 0 packed (omega arith) g
-      | inr g ↦ match_of_gap line tree part gaps (length line) packed (omega arith) g
+      | inl g ↦ match_of_gap line tree node gaps 0 packed (omega arith) g
+      | inr g ↦ match_of_gap line tree node gaps (length line) packed (omega arith) g
     ]
 
-pub found_by_word : (line : List ℕ) (tree : Tree) (part : Shape) (gaps : Gaps) (there found : Bool) → IsPacked (λ line. Spans line tree) part gaps
+pub found_by_word : (line : List ℕ) (tree : Tree) (node : Shape) (gaps : Gaps) (there found : Bool) → IsPacked (λ line. Spans line tree) node gaps
     → there ≡ (is_gap gaps line 0 || is_gap gaps line (length line)) → there ≡ false
-    → IsTrue found ↔ HasWanted line part (record { first = 0; past = length line; whole_words = false }) → IsTrue found ↔ ContainsMatch tree line
-found_by_word line tree part gaps there found packed there_is none word = (
-  λ is. match_of_word line tree part gaps (record { first = 0; past = length line; whole_words = false }) packed (word.0 is),
+    → IsTrue found ↔ HasWanted line node (record { first = 0; past = length line; whole_words = false }) → IsTrue found ↔ ContainsMatch tree line
+found_by_word line tree node gaps there found packed there_is none word = (
+  λ is. match_of_word line tree node gaps (record { first = 0; past = length line; whole_words = false }) packed (word.0 is),
   λ hit.
-      elim (match_to line tree part gaps packed hit) [
+      elim (match_to line tree node gaps packed hit) [
         | inl ends ↦
             absurd (false≢true (sym none ∙ there_is
             ∙ elim ends [
@@ -303,12 +303,12 @@ found_by_word line tree part gaps there found packed there_is none word = (
 )
 
 -- Some cell is there for one copy.
-pub some_cell : (part : Shape) (cells : List ℕ) → length cells ≡ size_of part 1 → 0 < length cells
-some_cell part cells long = let fit : 1 ≤ size_of part 1 = own_fit part 1 in omega arith
+pub some_cell : (node : Shape) (cells : List ℕ) → length cells ≡ size_of node 1 → 0 < length cells
+some_cell node cells long = let fit : 1 ≤ size_of node 1 = own_fit node 1 in omega arith
 
-pub found_at_all : (line : List ℕ) (part : Shape) (wanted : Wanted) (cells : List ℕ) (found : Option ℕ)
-    → MatchOption found (NoneEndsAfter line part wanted wanted.first)
-    (λ end. IsNextEnd line part wanted wanted.first end × IsReadTo line end part wanted cells)
-    → IsTrue (is_some found) ↔ HasWanted line part wanted
-found_at_all line part wanted cells None none = (λ is. absurd (false≢true is), λ has. absurd (none_at_all line part wanted none has))
-found_at_all line part wanted cells (Some end) next = (λ is. (next.0.ends.0, (end, next.0.ends.1)), λ has. refl)
+pub found_at_all : (line : List ℕ) (node : Shape) (wanted : WordRange) (cells : List ℕ) (found : Option ℕ)
+    → MatchOption found (NoneEndsAfter line node wanted wanted.first)
+    (λ end. IsNextEnd line node wanted wanted.first end × IsReadTo line end node wanted cells)
+    → IsTrue (is_some found) ↔ HasWanted line node wanted
+found_at_all line node wanted cells None none = (λ is. absurd (false≢true is), λ has. absurd (none_at_all line node wanted none has))
+found_at_all line node wanted cells (Some end) next = (λ is. (next.0.ends.0, (end, next.0.ends.1)), λ has. refl)

@@ -10,7 +10,7 @@ use Rattle.ere.specs.ByteSet.{has}
 use Rattle.ere.proofs.Bits.{has_not, has_zero}
 use Rattle.spans.proofs.Bits.{and_all}
 use Rattle.simulation.specs.declared.run.Mark.TheVariants.{Has}
-use Rattle.simulation.specs.declared.run.Place.{Place}
+use Rattle.simulation.specs.declared.run.RowSet.{RowSet}
 use Rattle.simulation.specs.Pending.{IsSpread}
 use Rattle.simulation.specs.Private.Rows.{is_marked, Marks, IsMarked, AreMasks}
 use Rattle.simulation.proofs.Forward.{at_or_past}
@@ -24,7 +24,7 @@ marks_low on result low copies b few inside result_is low_is =
     result_is ∙ ap (λ t. on && t) (low_is ∙ has_not 0 b small bit ∙ ap not (has_zero b)) ∙ and_all on
 
 -- One more place moves the others up.
-marks_more : (word next copies : ℕ) (test : Place → Bool) (row : List Place) (place : Place) → length row * copies + copies ≤ 64
+marks_more : (word next copies : ℕ) (test : RowSet → Bool) (row : List RowSet) (place : RowSet) → length row * copies + copies ≤ 64
     → ((b : ℕ) → b < copies → has_bit next b ≡ test place) → ((b : ℕ) → copies + b < 64 → has_bit next (copies + b) ≡ has_bit word b)
     → Marks word copies test row → Marks next copies test (row ++ (place ∷ []))
 marks_more word next copies test [] place fits low high marks =
@@ -38,7 +38,7 @@ marks_more word next copies test (other ∷ row) place fits low high (here, rest
 )
 
 -- The places up to one are marked.
-pub marked_more : (word next bits copies all : ℕ) (test : Place → Bool) (row : List Place) (place : Place) → length row < all → all * copies + copies ≤ 64
+pub marked_more : (word next bits copies all : ℕ) (test : RowSet → Bool) (row : List RowSet) (place : RowSet) → length row < all → all * copies + copies ≤ 64
     → ((b : ℕ) → b < 64 → has_bit next b ≡ (if nat_lt b copies then has_bit bits b else has_bit word (b - copies)))
     → ((b : ℕ) → b < copies → has_bit bits b ≡ test place) → IsMarked word copies test row → IsMarked next copies test (row ++ (place ∷ []))
 marked_more word next bits copies all test row place few fits bits_are here marked = record {
@@ -64,14 +64,14 @@ marked_more word next bits copies all test row place few fits bits_are here mark
         bits_are (copies + b) inside ∙ ap (λ t. if t then has_bit bits (copies + b) else has_bit word (copies + b - copies)) past ∙ ap (has_bit word) same
 
 -- The mark of the first place.
-pub first_mark : (word copies : ℕ) (test : Place → Bool) (row : List Place) (place : Place) → 0 < copies → Marks word copies test (place ∷ row)
+pub first_mark : (word copies : ℕ) (test : RowSet → Bool) (row : List RowSet) (place : RowSet) → 0 < copies → Marks word copies test (place ∷ row)
     → has_bit word (length row * copies) ≡ test place
 first_mark word copies test row place some marks =
     let same : length row * copies + 0 ≡ length row * copies = omega arith in
     subst (λ n. has_bit word n ≡ test place) same (marks.0 0 some)
 
 -- All copies of a place have its mark.
-pub marks_alike : (word copies : ℕ) (test : Place → Bool) (row : List Place) → 0 < copies → Marks word copies test row → (left copy : ℕ) → left < length row
+pub marks_alike : (word copies : ℕ) (test : RowSet → Bool) (row : List RowSet) → 0 < copies → Marks word copies test row → (left copy : ℕ) → left < length row
     → copy < copies → has_bit word (left * copies + copy) ≡ has_bit word (left * copies)
 marks_alike word copies test [] some marks left copy low inside = absurd (omega arith)
 marks_alike word copies test (place ∷ row) some marks left copy low inside =
@@ -82,7 +82,7 @@ marks_alike word copies test (place ∷ row) some marks left copy low inside =
       | inr past ↦ marks_alike word copies test row some marks.1 left copy past inside
     ]
 
-pub marked_spread : (word copies after : ℕ) (test : Place → Bool) (row : List Place) → 0 < copies → suc after ≡ length row → IsMarked word copies test row
+pub marked_spread : (word copies after : ℕ) (test : RowSet → Bool) (row : List RowSet) → 0 < copies → suc after ≡ length row → IsMarked word copies test row
     → IsSpread word after copies
 marked_spread word copies after test row some all marked = record {
   same = λ left copy within inside. marks_alike word copies test row some marked.marks left copy (omega arith) inside;
@@ -92,11 +92,11 @@ marked_spread word copies after test row some all marked = record {
 }
 
 -- The masks of the bytes below one.
-pub record AreMasksTo (masks : List ℕ) (end copies : ℕ) (row : List Place) : Type 0 where
+pub record AreMasksTo (masks : List ℕ) (end copies : ℕ) (row : List RowSet) : Type 0 where
   pub all : length masks ≡ 256
   pub each : (byte : ℕ) → byte < end → IsMarked (slice_index masks byte) copies (is_marked (Has byte)) row
 
-pub masks_more : (masks : List ℕ) (end word copies : ℕ) (row : List Place) → end < 256 → AreMasksTo masks end copies row
+pub masks_more : (masks : List ℕ) (end word copies : ℕ) (row : List RowSet) → end < 256 → AreMasksTo masks end copies row
     → IsMarked word copies (is_marked (Has end)) row → AreMasksTo (set masks end word) (end + 1) copies row
 masks_more masks end word copies row inside before here = record {
   all = length-set masks end word ∙ before.all;
@@ -117,13 +117,13 @@ has_past members byte past =
     let is : nat_lt byte 256 ≡ false = grind (arith, nat_tests) in
     ap (λ t. (t && (not (byte == 0) && not (byte == 10))) && slice_index_or members byte false) is
 
-no_marks : (byte copies : ℕ) (row : List Place) → 256 ≤ byte → Marks 0 copies (is_marked (Has byte)) row
+no_marks : (byte copies : ℕ) (row : List RowSet) → 256 ≤ byte → Marks 0 copies (is_marked (Has byte)) row
 no_marks byte copies [] past = tt
 no_marks byte copies (place ∷ row) past =
     (λ copy inside. has_zero (length row * copies + copy) ∙ sym (has_past place.members byte past), no_marks byte copies row past)
 
 -- The masks also of what is no byte.
-pub each_marks : (masks : List ℕ) (copies : ℕ) (row : List Place) → AreMasks masks copies row → (byte : ℕ)
+pub each_marks : (masks : List ℕ) (copies : ℕ) (row : List RowSet) → AreMasks masks copies row → (byte : ℕ)
     → Marks (slice_index masks byte) copies (is_marked (Has byte)) row
 each_marks masks copies row made byte = go (nat_lt byte 256) refl
   where

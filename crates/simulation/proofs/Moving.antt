@@ -11,7 +11,7 @@ use Rattle.std.proofs.lemmas.Nat.Bits.{bit_at_above}
 use Rattle.ere.specs.Bits.{has_bit}
 use Rattle.ere.proofs.Bits.{has_or, has_with, tests_bit}
 use Rattle.spans.proofs.Bits.{false≢true, has_moved_to, or_none, position_is, position_set_same, position_set_other}
-use Rattle.simulation.specs.declared.part.Counts.{Counts}
+use Rattle.simulation.specs.declared.node.RepeatCounts.{RepeatCounts}
 use Rattle.simulation.specs.Pending.{at, room, AnyTurn, Enters, Enters as enters, IsNarrow, IsNarrow as narrows}
 use Rattle.simulation.proofs.Tests.{or_cases, or_left, or_right, and_left, and_right, and_both}
 use Rattle.simulation.proofs.Forward.{at_or_past, le_or_lt}
@@ -234,7 +234,7 @@ pub stride_below : (turns stride all : ℕ) → 0 < turns → all ≡ turns * st
 stride_below turns stride all some all_is = let below = turns_below 0 turns stride some in omega arith
 
 -- What begins in a turn, from what is moved up, added and repeated.
-pub begun_turns : (counts : Counts) (gap : Bool) (entered read out : List ℕ) → 0 < counts.stride → counts.all ≡ counts.copies * counts.stride
+pub begun_turns : (counts : RepeatCounts) (gap : Bool) (entered read out : List ℕ) → 0 < counts.stride → counts.all ≡ counts.copies * counts.stride
     → ((k : ℕ) → k < counts.all → at out k
     ≡ ((shifted counts.stride entered read k || (counts.unbounded && (nat_le (counts.all - counts.stride) k && at read k))) || (gap && repeated counts.stride entered k)))
     → (turn k : ℕ) → turn < counts.copies → k < counts.stride → IsTrue (at out (turn * counts.stride + k)) ↔ Enters counts gap entered read turn k
@@ -353,14 +353,14 @@ narrow_small stride (narrows.sixteen e) = (omega arith, omega arith)
 narrow_small stride (narrows.half e) = (omega arith, omega arith)
 
 -- One of the turns before one is set.
-abbrev pub AnyBefore : Counts → ℕ → ℕ → List ℕ → ℕ → Type 0
+abbrev pub AnyBefore : RepeatCounts → ℕ → ℕ → List ℕ → ℕ → Type 0
 AnyBefore counts lowest turn cells k = (before : ℕ) × (lowest ≤ before) × (before < turn) × IsTrue (at cells (before * counts.stride + k))
 
-pub before_none : (counts : Counts) (lowest : ℕ) (cells : List ℕ) (k : ℕ) (held : Bool) → held ≡ false → IsTrue held ↔ AnyBefore counts lowest lowest cells k
+pub before_none : (counts : RepeatCounts) (lowest : ℕ) (cells : List ℕ) (k : ℕ) (held : Bool) → held ≡ false → IsTrue held ↔ AnyBefore counts lowest lowest cells k
 before_none counts lowest cells k held none =
     (λ h. absurd (false≢true (sym none ∙ h)), λ any. let low = any.1 in let high = any.2 in absurd (omega arith))
 
-pub before_more : (counts : Counts) (lowest turn : ℕ) (cells : List ℕ) (k : ℕ) (held one both : Bool) → lowest ≤ turn → IsTrue held ↔ AnyBefore counts lowest turn cells k
+pub before_more : (counts : RepeatCounts) (lowest turn : ℕ) (cells : List ℕ) (k : ℕ) (held one both : Bool) → lowest ≤ turn → IsTrue held ↔ AnyBefore counts lowest turn cells k
     → one ≡ at cells (turn * counts.stride + k) → both ≡ (held || one) → IsTrue both ↔ AnyBefore counts lowest (turn + 1) cells k
 before_more counts lowest turn cells k held one both low so_far one_is both_is = (there, back)
   where
@@ -378,7 +378,7 @@ before_more counts lowest turn cells k held one both low so_far one_is both_is =
           | inr past ↦ both_is ∙ or_left held one (so_far.1 (before, high, past, is))
         ]
 
-pub before_all : (counts : Counts) (lowest turn : ℕ) (cells : List ℕ) (k : ℕ) (held : Bool) → counts.copies ≤ turn → (lowest ≤ counts.copies → turn ≤ counts.copies)
+pub before_all : (counts : RepeatCounts) (lowest turn : ℕ) (cells : List ℕ) (k : ℕ) (held : Bool) → counts.copies ≤ turn → (lowest ≤ counts.copies → turn ≤ counts.copies)
     → (counts.copies < lowest → turn ≤ lowest) → IsTrue held ↔ AnyBefore counts lowest turn cells k → IsTrue held ↔ AnyTurn counts lowest cells k
 before_all counts lowest turn cells k held reached within past so_far = (
   λ h.
@@ -471,7 +471,7 @@ wide_cell turn stride words k read stride_is =
     let same : 64 * (turn * words) + k ≡ turn * stride + k = omega arith in
     ap (at read) same
 
-pub first_any : (counts : Counts) (lowest : ℕ) (read own : List ℕ) (word k : ℕ) → 0 < length own → k < 64 → IsTrue (has_bit word k) ↔ AnyTurn counts lowest read k
+pub first_any : (counts : RepeatCounts) (lowest : ℕ) (read own : List ℕ) (word k : ℕ) → 0 < length own → k < 64 → IsTrue (has_bit word k) ↔ AnyTurn counts lowest read k
     → IsTrue (at (set own 0 word) k) ↔ AnyTurn counts lowest read k
 first_any counts lowest read own word k some low is =
     (λ h. is.0 (sym (first_written own word k some low) ∙ h), λ any. first_written own word k some low ∙ is.1 any)

@@ -1,12 +1,12 @@
--- Parts that stand for trees.
+-- Nodes that stand for trees.
 use Rattle.std.proofs.Common.{◌≡◌, ℕ, Bool, true, false, ◌&&◌, ◌||◌, ◌==◌, if◌then◌else◌, IsTrue, List, length}
 use Rattle.std.proofs.Common.{◌⊎◌, ◌↔◌, inl, inr, refl, sym, subst, ◌∙◌, arith}
 use Rattle.std.proofs.lemmas.Bool.Decides.{nat_tests}
 use Rattle.ere.specs.Tree.{empty, set, at_start, at_end, none}
 use Rattle.spans.specs.Spans.{Relation, Spans, SpansSome}
-use Rattle.simulation.specs.declared.part.Gaps.{Gaps}
-use Rattle.simulation.specs.Parts.{Shape, nothing, is_gap, Reads}
-use Rattle.simulation.specs.Parts.{set as one_of}
+use Rattle.simulation.specs.declared.node.Gaps.{Gaps}
+use Rattle.simulation.specs.Nodes.{Shape, nothing, is_gap, Reads}
+use Rattle.simulation.specs.Nodes.{set as one_of}
 use Rattle.simulation.specs.Packing.{IsPacked, StandsFor, WordsAt, StandsForSome, nowhere, everywhere, gaps_of_both, gaps_of_either}
 use Rattle.simulation.proofs.Tests.{or_cases, or_left, or_right, and_left, and_right, and_both}
 use Rattle.simulation.proofs.Forward.{reads_forward}
@@ -60,21 +60,21 @@ gap_either one two line at = go (at == 0) (length line == 0) (at == length line)
     go false zero_long true = refl
     go false zero_long false = refl
 
--- A part stands for a relation if, with its gaps, it has the same words.
-pub packed_by : (words : List ℕ → Relation) (part : Shape) (gaps : Gaps)
-    → ((line : List ℕ) (from to : ℕ) → WordsAt part gaps line from to ↔ words line from to) → (IsTrue gaps.inside → IsTrue gaps.start × IsTrue gaps.end)
-    → IsPacked words part gaps
-packed_by words part gaps same steady = record {
+-- A node stands for a relation if, with its gaps, it has the same words.
+pub packed_by : (words : List ℕ → Relation) (node : Shape) (gaps : Gaps)
+    → ((line : List ℕ) (from to : ℕ) → WordsAt node gaps line from to ↔ words line from to) → (IsTrue gaps.inside → IsTrue gaps.start × IsTrue gaps.end)
+    → IsPacked words node gaps
+packed_by words node gaps same steady = record {
   forward = λ line from to w.
-      elim ((same line from to).1 w) [ inl r ↦ (let on = reads_forward line part from to r in omega arith) | inr g ↦ (let stays = g.0 in omega arith) ];
+      elim ((same line from to).1 w) [ inl r ↦ (let on = reads_forward line node from to r in omega arith) | inr g ↦ (let stays = g.0 in omega arith) ];
   sound = λ line from to r. (same line from to).0 (inl r);
   complete = λ line from to past w. elim ((same line from to).1 w) [ inl r ↦ r | inr g ↦ (let stays = g.0 in absurd (omega arith)) ];
   empty = λ line here g. (same line here here).0 (inr (refl, g));
-  gap = λ line here w. elim ((same line here here).1 w) [ inl r ↦ (let on = reads_forward line part here here r in absurd (omega arith)) | inr g ↦ g.1 ];
+  gap = λ line here w. elim ((same line here here).1 w) [ inl r ↦ (let on = reads_forward line node here here r in absurd (omega arith)) | inr g ↦ g.1 ];
   steady = steady;
 }
 
--- A part without words stands for the empty word everywhere.
+-- A node without words stands for the empty word everywhere.
 pub everywhere_packed : (words : List ℕ → Relation) → ((line : List ℕ) (from to : ℕ) → words line from to ↔ (from ≡ to)) → IsPacked words nothing everywhere
 unfolding Reads
 everywhere_packed words same =
@@ -168,7 +168,7 @@ either_steady one two first second h =
       | inr b ↦ (or_right one.start two.start (second b).0, or_right one.end two.end (second b).1)
     ]
 
--- Some part has the nonempty words of either.
+-- Some node has the nonempty words of either.
 pub either_packed : (one two : List ℕ → Relation) (left right whole : Shape) (before after : Gaps)
     → ((line : List ℕ) (from to : ℕ) → Reads line whole from to → Reads line left from to ⊎ Reads line right from to)
     → ((line : List ℕ) (from to : ℕ) → Reads line left from to ⊎ Reads line right from to → Reads line whole from to)

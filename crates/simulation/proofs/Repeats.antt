@@ -1,14 +1,14 @@
--- Parts that stand for repeats.
+-- Nodes that stand for repeats.
 use Rattle.std.proofs.Common.{◌≡◌, ◌≢◌, ℕ, zero, suc, ◌+◌, ◌-◌, ◌<◌, ◌≤◌, Bool, true, false, ◌==◌, if◌then◌else◌, IsTrue, List, length}
 use Rattle.std.proofs.Common.{Option, Some, None, IfSome, ◌⊎◌, inl, inr, refl, sym, subst, ap, arith}
 use Rattle.std.proofs.lemmas.Bool.Decides.{nat_tests}
 use Rattle.ere.specs.Tree.{Tree, repeat}
 use Rattle.spans.specs.Spans.{Relation, Spans, Steps}
-use Rattle.simulation.specs.declared.part.Gaps.{Gaps}
-use Rattle.simulation.specs.declared.part.Places.{Places}
-use Rattle.simulation.specs.Parts.{Row as rows}
-use Rattle.simulation.specs.Parts.{Shape, nothing, run, both, either, loop, times, is_gap, Chain, Reads, Row}
-use Rattle.simulation.specs.Parts.{set as one_of}
+use Rattle.simulation.specs.declared.node.Gaps.{Gaps}
+use Rattle.simulation.specs.declared.node.RunLayout.{RunLayout}
+use Rattle.simulation.specs.Nodes.{Row as rows}
+use Rattle.simulation.specs.Nodes.{Shape, nothing, run, both, either, loop, times, is_gap, Chain, Reads, Row}
+use Rattle.simulation.specs.Nodes.{set as one_of}
 use Rattle.simulation.specs.Packing.{StandsFor, everywhere, gaps_of_times}
 use Rattle.simulation.proofs.Forward.{at_or_past, le_or_lt, row_forward}
 use Rattle.simulation.proofs.Packing.{gap_everywhere}
@@ -112,13 +112,13 @@ thinned few relation forward into (suc count) from to past (middle, h, r) =
           ];
         }
 
-pub chain_inside : (line : List ℕ) (part : Shape) → ((a b : ℕ) → Reads line part a b → b ≤ length line) → (count from to : ℕ)
-    → Chain (Reads line part) (suc count) from to → to ≤ length line
+pub chain_inside : (line : List ℕ) (node : Shape) → ((a b : ℕ) → Reads line node a b → b ≤ length line) → (count from to : ℕ)
+    → Chain (Reads line node) (suc count) from to → to ≤ length line
 unfolding Chain
-chain_inside line part inside zero from to h = subst (λ n. n ≤ length line) h.2 (inside from h.0 h.1)
-chain_inside line part inside (suc count) from to h = chain_inside line part inside count h.0 to h.2
+chain_inside line node inside zero from to h = subst (λ n. n ≤ length line) h.2 (inside from h.0 h.1)
+chain_inside line node inside (suc count) from to h = chain_inside line node inside count h.0 to h.2
 
-row_inside : (line masks : List ℕ) (places : Places) (left from to : ℕ) → Row line masks places left from to → from < to → to ≤ length line
+row_inside : (line masks : List ℕ) (places : RunLayout) (left from to : ℕ) → Row line masks places left from to → from < to → to ≤ length line
 row_inside line masks places zero from to (rows.done e) on = absurd (omega arith)
 row_inside line masks places (suc left) from to (rows.skips o r) on = row_inside line masks places left from to r on
 row_inside line masks places (suc left) from to (rows.reads i r) on =
@@ -132,7 +132,7 @@ row_inside line masks places left from to (rows.again p i r) on =
       | inr past ↦ row_inside line masks places left (suc from) to r past
     ]
 
-pub reads_inside : (line : List ℕ) (part : Shape) (from to : ℕ) → Reads line part from to → to ≤ length line
+pub reads_inside : (line : List ℕ) (node : Shape) (from to : ℕ) → Reads line node from to → to ≤ length line
 unfolding Reads
 reads_inside line nothing from to h = absurd h
 reads_inside line (one_of members) from to h = let next = h.0 in let low = h.1 in omega arith
@@ -172,15 +172,15 @@ gap_between gaps line from at to low high inside h = go (at_or_past from at low)
     go (inr a) (inl b) = inr (inr (subst (λ n. IsTrue (is_gap gaps line n)) b h))
     go (inr a) (inr b) = inl (middle a b (at == 0) (length line == 0) (at == length line) refl refl h)
 
--- A part that reads numbers of words of another stands for the repeat.
-pub repeat_packed : (body : Tree) (part whole : Shape) (gaps : Gaps) (least : ℕ) (greatest : Option ℕ) → AtMost greatest least → StandsFor body part gaps
+-- A node that reads numbers of words of another stands for the repeat.
+pub repeat_packed : (body : Tree) (node whole : Shape) (gaps : Gaps) (least : ℕ) (greatest : Option ℕ) → AtMost greatest least → StandsFor body node gaps
     → ((line : List ℕ) (from to : ℕ) → Reads line whole from to
-    → (words : ℕ) × Chain (Reads line part) (suc words) from to × AtMost greatest (suc words) × IsEnough line least gaps (suc words) from to)
-    → ((line : List ℕ) (from to words : ℕ) → Chain (Reads line part) (suc words) from to → AtMost greatest (suc words)
+    → (words : ℕ) × Chain (Reads line node) (suc words) from to × AtMost greatest (suc words) × IsEnough line least gaps (suc words) from to)
+    → ((line : List ℕ) (from to words : ℕ) → Chain (Reads line node) (suc words) from to → AtMost greatest (suc words)
     → IsTrue gaps.inside ⊎ IsEnough line least gaps (suc words) from to → Reads line whole from to)
     → StandsFor (repeat body least greatest) whole (gaps_of_times least gaps)
 unfolding Spans Steps
-repeat_packed body part whole gaps least greatest ordered inner of_whole to_whole = record {
+repeat_packed body node whole gaps least greatest ordered inner of_whole to_whole = record {
   forward = λ line from to h. steps_forward (Spans line body) (inner.forward line) h.0 from to h.3;
   sound = sound;
   complete = complete;
@@ -189,10 +189,10 @@ repeat_packed body part whole gaps least greatest ordered inner of_whole to_whol
   steady = steady (least == 0);
 }
   where
-    padded : (line : List ℕ) (from to words : ℕ) → Chain (Reads line part) (suc words) from to → AtMost greatest (suc words)
+    padded : (line : List ℕ) (from to words : ℕ) → Chain (Reads line node) (suc words) from to → AtMost greatest (suc words)
         → (least ≤ suc words) ⊎ (suc words < least) → IsEnough line least gaps (suc words) from to
         → (count : ℕ) × (least ≤ count) × AtMost greatest count × Steps (Spans line body) count from to
-    padded line from to words chain fits (inl enough) e = (suc words, enough, fits, steps_of_chain (Reads line part) (Spans line body) (inner.sound line) (suc words) from to chain)
+    padded line from to words chain fits (inl enough) e = (suc words, enough, fits, steps_of_chain (Reads line node) (Spans line body) (inner.sound line) (suc words) from to chain)
     padded line from to words chain fits (inr short) (inl enough) = absurd (omega arith)
     padded line from to words chain fits (inr short) (inr (inl g)) =
         let same : (least - suc words) + suc words ≡ least = omega arith in
@@ -202,7 +202,7 @@ repeat_packed body part whole gaps least greatest ordered inner of_whole to_whol
           ordered,
           subst (λ n. Steps (Spans line body) n from to) same
               (steps_join (Spans line body) (least - suc words) (suc words) from from to (steps_padded (Spans line body) (least - suc words) from (inner.empty line from g))
-              (steps_of_chain (Reads line part) (Spans line body) (inner.sound line) (suc words) from to chain)),
+              (steps_of_chain (Reads line node) (Spans line body) (inner.sound line) (suc words) from to chain)),
         )
     padded line from to words chain fits (inr short) (inr (inr g)) =
         let same : suc words + (least - suc words) ≡ least = omega arith in
@@ -212,7 +212,7 @@ repeat_packed body part whole gaps least greatest ordered inner of_whole to_whol
           ordered,
           subst (λ n. Steps (Spans line body) n from to) same
               (steps_join (Spans line body) (suc words) (least - suc words) from to to
-              (steps_of_chain (Reads line part) (Spans line body) (inner.sound line) (suc words) from to chain)
+              (steps_of_chain (Reads line node) (Spans line body) (inner.sound line) (suc words) from to chain)
               (steps_padded (Spans line body) (least - suc words) to (inner.empty line to g))),
         )
 
@@ -225,12 +225,12 @@ repeat_packed body part whole gaps least greatest ordered inner of_whole to_whol
     complete : (line : List ℕ) (from to : ℕ) → from < to
         → (count : ℕ) × (least ≤ count) × AtMost greatest count × Steps (Spans line body) count from to → Reads line whole from to
     complete line from to past (count, enough, fits, steps) =
-        let thin = thinned (Reads line part) (Spans line body) (inner.forward line) (λ a b less s. inner.complete line a b less s) count from to past steps in
+        let thin = thinned (Reads line node) (Spans line body) (inner.forward line) (λ a b less s. inner.complete line a b less s) count from to past steps in
         to_whole line from to thin.extra thin.chain (at_most_fewer greatest (suc thin.extra) count thin.fewer fits)
         (elim thin.left_out [
           | inl e ↦ (let reached : least ≤ suc thin.extra = omega arith in inr (inl reached))
           | inr s ↦
-              elim (gap_between gaps line from s.0 to s.1 s.2 (chain_inside line part (λ a b r. reads_inside line part a b r) thin.extra from to thin.chain) (inner.gap line s.0 s.3)) [
+              elim (gap_between gaps line from s.0 to s.1 s.2 (chain_inside line node (λ a b r. reads_inside line node a b r) thin.extra from to thin.chain) (inner.gap line s.0 s.3)) [
                 | inl i ↦ inl i
                 | inr g ↦ inr (inr g)
               ]

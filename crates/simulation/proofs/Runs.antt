@@ -6,8 +6,8 @@ use Rattle.std.proofs.lemmas.Nat.{mul-add-lt}
 use Rattle.std.proofs.lemmas.Nat.Bits.{bit_at_above}
 use Rattle.ere.specs.Bits.{has_bit}
 use Rattle.spans.proofs.Bits.{false≢true}
-use Rattle.simulation.specs.declared.part.Places.{Places}
-use Rattle.simulation.specs.Parts.{Shape, run, Reads, Row, Row as rows, IsRead}
+use Rattle.simulation.specs.declared.node.RunLayout.{RunLayout}
+use Rattle.simulation.specs.Nodes.{Shape, run, Reads, Row, Row as rows, IsRead}
 use Rattle.simulation.specs.Pending.{at, Advances, IsKept, IsRun, Pending}
 use Rattle.simulation.specs.Private.Rows.{Passes}
 use Rattle.simulation.proofs.Tests.{or_cases, or_left, or_right, and_left, and_right, and_both}
@@ -20,12 +20,12 @@ pub below : (left after stride k : ℕ) → left < after → k < stride → left
 below left after stride k low inside = omega (arith, mul-add-lt left stride k after low inside)
 
 -- What waits before a byte: the cells, and what is entered in the place above them.
-pub record Waits (places : Places) (entered cells : List ℕ) (waiting : ℕ) : Type 0 where
+pub record Waits (places : RunLayout) (entered cells : List ℕ) (waiting : ℕ) : Type 0 where
   pub cells_are : (left k : ℕ) → left ≤ places.after → k < places.stride → has_bit waiting (left * places.stride + k) ≡ at cells (left * places.stride + k)
   pub entered_is : (k : ℕ) → k < places.stride → has_bit waiting (suc places.after * places.stride + k) ≡ at entered k
   pub none : (bit : ℕ) → suc places.after * places.stride + places.stride ≤ bit → IsTrue (has_bit waiting bit) → ⊥
 
-pub waits_are : (places : Places) (entered cells : List ℕ) (first waiting begun kept : ℕ) → first ≡ places.after * places.stride + places.stride
+pub waits_are : (places : RunLayout) (entered cells : List ℕ) (first waiting begun kept : ℕ) → first ≡ places.after * places.stride + places.stride
     → first + places.stride ≤ 64 → waiting < 2 ^ 64
     → ((b : ℕ) → b < 64 → has_bit waiting b ≡ (if nat_lt b first then has_bit kept b else has_bit begun (b - first)))
     → ((b : ℕ) → b < first → has_bit kept b ≡ has_bit (get_or cells 0 0) b)
@@ -71,7 +71,7 @@ waits_are places entered cells first waiting begun kept first_is fits small bits
             false≢true (sym (ap (λ n. n == 1) (bit_at_above waiting 64 bit small above)) ∙ h)
 
 -- A run after a byte, with one stride for its copies.
-run_advances : (line : List ℕ) (here : ℕ) (masks : List ℕ) (places : Places) (entered cells next : List ℕ) (waiting ready read mask : ℕ) → here < length line
+run_advances : (line : List ℕ) (here : ℕ) (masks : List ℕ) (places : RunLayout) (entered cells next : List ℕ) (waiting ready read mask : ℕ) → here < length line
     → IsRun masks places places.stride → mask ≡ get_or masks (get_or line here 0) 0 → Waits places entered cells waiting
     → ((b : ℕ) → IsTrue (has_bit ready b) ↔ Passes waiting places.optional places.stride b)
     → ((b : ℕ) → has_bit read b ≡ ((has_bit ready (places.stride + b) || (has_bit ready b && has_bit places.repeated b)) && has_bit mask b))
@@ -282,7 +282,7 @@ run_advances line here masks places entered cells next waiting ready read mask i
         let same : 0 * s + k ≡ k = omega arith in
         subst (λ n. IsTrue (at next n)) same (still k low left (suc here) (suc here) within (omega arith) row is)
 
-pub run_stepped : (line : List ℕ) (here : ℕ) (masks : List ℕ) (places : Places) (copies : ℕ) (entered cells : List ℕ) (waiting ready read word : ℕ)
+pub run_stepped : (line : List ℕ) (here : ℕ) (masks : List ℕ) (places : RunLayout) (copies : ℕ) (entered cells : List ℕ) (waiting ready read word : ℕ)
     → here < length line → IsRun masks places copies → 0 < length cells → Waits places entered cells waiting
     → ((b : ℕ) → IsTrue (has_bit ready b) ↔ Passes waiting places.optional places.stride b)
     → ((b : ℕ) → has_bit read b
@@ -305,14 +305,14 @@ run_stepped line here masks places copies entered cells waiting ready read word 
         let same = first_written cells word (left * places.stride + k) some bit in
         (λ h. (word_is (left * places.stride + k)).0 (sym same ∙ h), λ h. same ∙ (word_is (left * places.stride + k)).1 h)
 
-pub room_for : (masks : List ℕ) (places : Places) (copies : ℕ) → IsRun masks places copies → places.after * places.stride + places.stride + places.stride ≤ 64
+pub room_for : (masks : List ℕ) (places : RunLayout) (copies : ℕ) → IsRun masks places copies → places.after * places.stride + places.stride + places.stride ≤ 64
 room_for masks places copies is_run =
     let same : places.after * places.stride ≡ places.after * copies = ap (λ n. places.after * n) is_run.apart in
     let apart = is_run.apart in
     let fits = is_run.fits in
     omega arith
 
--- What is read, from its parts.
+-- What is read, from its nodes.
 pub read_is : (ready repeated mask stride read moved down again : ℕ) → ((b : ℕ) → has_bit read b ≡ (has_bit moved b && has_bit mask b))
     → ((b : ℕ) → has_bit moved b ≡ (has_bit down b || has_bit again b)) → ((b : ℕ) → has_bit down b ≡ has_bit ready (stride + b))
     → ((b : ℕ) → has_bit again b ≡ (has_bit ready b && has_bit repeated b)) → (b : ℕ)

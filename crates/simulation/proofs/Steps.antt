@@ -1,11 +1,11 @@
--- What one byte does to the cells of each kind of part.
+-- What one byte does to the cells of each kind of node.
 use Rattle.std.proofs.Common.{◌≡◌, ℕ, zero, suc, ◌+◌, ◌-◌, ◌*◌, ◌<◌, ◌≤◌, Bool, false, ◌&&◌, ◌||◌, IsTrue, List, length, get_or, drop, ◌⊎◌, ◌↔◌, inl, inr}
 use Rattle.std.proofs.Common.{refl, sym, subst, ◌∙◌, arith}
 use Rattle.ere.specs.ByteSet.{has}
-use Rattle.simulation.specs.declared.part.Gaps.{Gaps}
-use Rattle.simulation.specs.declared.part.Counts.{Counts}
-use Rattle.simulation.specs.declared.part.Sizes.{Sizes}
-use Rattle.simulation.specs.Parts.{Shape, nothing, set, run, both, either, loop, times, is_gap, Chain, Reads, Fits, Suffices}
+use Rattle.simulation.specs.declared.node.Gaps.{Gaps}
+use Rattle.simulation.specs.declared.node.RepeatCounts.{RepeatCounts}
+use Rattle.simulation.specs.declared.node.Sizes.{Sizes}
+use Rattle.simulation.specs.Nodes.{Shape, nothing, set, run, both, either, loop, times, is_gap, Chain, Reads, Fits, Suffices}
 use Rattle.simulation.specs.Pending.{at, first_of, second_of, Pending, Tells, IsKept, IsReady, Advances}
 use Rattle.simulation.proofs.Tests.{or_cases, or_left, or_right, and_left, and_right, and_both}
 use Rattle.simulation.specs.Pending.{Enters, Enters as enters, AnyTurn}
@@ -13,9 +13,9 @@ use Rattle.simulation.proofs.Forward.{reads_forward, pending_forward, stays, at_
 use Rattle.spans.proofs.Bits.{false≢true, is_false}
 use Rattle.std.proofs.lemmas.Nat.{mul-add-lt}
 
--- What the first cells of a part say is kept.
-pub told : (line : List ℕ) (here : ℕ) (part : Shape) (copies : ℕ) (cells : List ℕ) → IsKept line here part copies cells
-    → Tells line here part copies cells
+-- What the first cells of a node say is kept.
+pub told : (line : List ℕ) (here : ℕ) (node : Shape) (copies : ℕ) (cells : List ℕ) → IsKept line here node copies cells
+    → Tells line here node copies cells
 unfolding IsKept Pending Chain
 told line here nothing copies cells h = h
 told line here (set members) copies cells h = h
@@ -268,11 +268,11 @@ loop_advances line here body own copies entered cells next entered_body one kept
     begins k to low is (more, (middle, r, c)) =
         (middle, more, one.begins k middle low (given k low ∙ or_left (at entered k) (at cells k) is) r, c)
 
-fits_fewer : (counts : Counts) (fewer words : ℕ) → fewer ≤ words → Fits counts words → Fits counts fewer
+fits_fewer : (counts : RepeatCounts) (fewer words : ℕ) → fewer ≤ words → Fits counts words → Fits counts fewer
 fits_fewer counts fewer words less (inl free) = inl free
 fits_fewer counts fewer words less (inr within) = let small : fewer ≤ counts.copies = omega arith in inr small
 
-pub times_advances : (line : List ℕ) (here : ℕ) (body : Shape) (counts : Counts) (copies : ℕ) (entered cells next entered_body : List ℕ) (lowest : ℕ)
+pub times_advances : (line : List ℕ) (here : ℕ) (body : Shape) (counts : RepeatCounts) (copies : ℕ) (entered cells next entered_body : List ℕ) (lowest : ℕ)
     → Advances line here body (counts.copies * counts.stride) entered_body (drop counts.own cells) (drop counts.own next)
     → IsKept line here (times body counts) copies cells → copies ≤ counts.stride → 0 < counts.copies → counts.least ≤ counts.copies
     → ((turn k : ℕ) → turn < counts.copies → k < copies
@@ -451,7 +451,7 @@ times_advances line here body counts copies entered cells next entered_body lowe
               (subst (λ n. Pending line (suc here) body all new (turn * counts.stride + k) n) stay p),
         )
 
--- A part with no word stays as it is.
+-- A node with no word stays as it is.
 pub nothing_stepped : (line : List ℕ) (here copies : ℕ) (entered cells : List ℕ) → IsReady line here nothing copies entered cells
     → Advances line here nothing copies entered cells cells
 unfolding IsKept Pending

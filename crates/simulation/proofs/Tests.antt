@@ -1,4 +1,4 @@
--- What tests of two parts say.
+-- What tests of two nodes say.
 use Rattle.std.proofs.Common.{Bool, true, false, ◌&&◌, ◌||◌, IsTrue, ◌⊎◌, inl, inr, refl}
 
 pub or_cases : (a b : Bool) → IsTrue (a || b) → IsTrue a ⊎ IsTrue b

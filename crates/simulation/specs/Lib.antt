@@ -1,4 +1,4 @@
-pub mod Parts
+pub mod Nodes
 pub mod Pending
 pub mod Private
 pub mod Packing

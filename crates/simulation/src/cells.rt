@@ -1,4 +1,4 @@
-//! Cells: one truth value for each copy of a part, in words of 64 bits.
+//! Cells: one truth value for each copy of a node, in words of 64 bits.
 
 ghost use Rattle.std.specs.Prelude.{◌≡◌, ℕ, ◌*◌, ◌<◌, ◌≤◌, ◌&&◌, ◌||◌, length};
 ghost use Rattle.ere.specs.Bits.{has_bit};
@@ -42,7 +42,7 @@ pub(crate) fn copy(from: &[u64], to: &mut [u64])
     requires { length from.now ≤ length to.old }
     ensures { (k : ℕ) → k < room from.now → at to.new k ≡ at from.now k }
 {
-    // Most parts have one word.
+    // Most nodes have one word.
     if from.len() == 1 {
         to[0] = from[0];
         return;

@@ -1,19 +1,19 @@
-//! Where words of a part end in a line.
+//! Where words of a node end in a line.
 
 ghost use Rattle.std.specs.Prelude.{◌≡◌, ℕ, ◌<◌, ◌≤◌, ◌↔◌, ◌&&◌, not, MatchOption, IsTrue, length};
 ghost use Rattle.spans.specs.Sides.{is_word_after, is_word_before};
-ghost use Rattle.simulation.specs.Parts.{shape};
+ghost use Rattle.simulation.specs.Nodes.{shape};
 ghost use Rattle.simulation.specs.Pending.{at};
 ghost use Rattle.simulation.specs.Private.Reading.{AreClear, Ends, HasRoom, HasWanted, IsLastEnd, IsNextEnd, IsReadTo, IsStart, NoneEndsAfter};
 
 use crate::cells::word_if;
-use crate::part::Part;
+use crate::node::Node;
 use crate::step::step;
 use ere::is_word_byte;
 
-/// Which words of a part are looked for.
+/// Which words of a node are looked for.
 #[derive(Clone, Copy, Debug, PartialEq, Eq)]
-pub(crate) struct Wanted {
+pub(crate) struct WordRange {
     /// The least position at which they begin.
     pub(crate) first: usize,
     /// The position after the greatest one.
@@ -24,33 +24,33 @@ pub(crate) struct Wanted {
 
 /// Whether there is such a word in the line.
 pub(crate) fn has_word(
-    part: &Part,
+    node: &Node,
     line: &[u8],
-    wanted: Wanted,
+    wanted: WordRange,
     entered: &mut [u64],
     cells: &mut [u64],
 ) -> bool
-    requires { HasRoom (shape part.now) entered.old cells.old }
-    ensures { IsTrue result ↔ HasWanted line.now (shape part.now) wanted }
+    requires { HasRoom (shape node.now) entered.old cells.old }
+    ensures { IsTrue result ↔ HasWanted line.now (shape node.now) wanted }
 {
     clear(cells);
-    next_end(part, line, wanted, wanted.first, entered, cells).is_some()
+    next_end(node, line, wanted, wanted.first, entered, cells).is_some()
 }
 
 /// The greatest position at which such a word ends, or `None` if there is none.
 pub(crate) fn last_end(
-    part: &Part,
+    node: &Node,
     line: &[u8],
-    wanted: Wanted,
+    wanted: WordRange,
     entered: &mut [u64],
     cells: &mut [u64],
 ) -> Option<usize>
-    requires { HasRoom (shape part.now) entered.old cells.old }
-    ensures { MatchOption result (HasWanted line.now (shape part.now) wanted → ⊥) (IsLastEnd line.now (shape part.now) wanted) }
+    requires { HasRoom (shape node.now) entered.old cells.old }
+    ensures { MatchOption result (HasWanted line.now (shape node.now) wanted → ⊥) (IsLastEnd line.now (shape node.now) wanted) }
 {
     clear(cells);
-    let mut last = next_end(part, line, wanted, wanted.first, entered, cells)?;
-    while let Some(end) = next_end(part, line, wanted, last, entered, cells) {
+    let mut last = next_end(node, line, wanted, wanted.first, entered, cells)?;
+    while let Some(end) = next_end(node, line, wanted, last, entered, cells) {
         last = end;
     }
     Some(last)
@@ -60,17 +60,17 @@ pub(crate) fn last_end(
 ///
 /// The cells are those of the position, and then those of the end.
 fn next_end(
-    part: &Part,
+    node: &Node,
     line: &[u8],
-    wanted: Wanted,
+    wanted: WordRange,
     from: usize,
     entered: &mut [u64],
     cells: &mut [u64],
 ) -> Option<usize>
-    requires room { HasRoom (shape part.now) entered.old cells.old }
-    requires read { IsReadTo line.now from (shape part.now) wanted cells.old }
-    ensures { MatchOption result (NoneEndsAfter line.now (shape part.now) wanted from)
-        (λ end. IsNextEnd line.now (shape part.now) wanted from end × IsReadTo line.now end (shape part.now) wanted cells.new) }
+    requires room { HasRoom (shape node.now) entered.old cells.old }
+    requires read { IsReadTo line.now from (shape node.now) wanted cells.old }
+    ensures { MatchOption result (NoneEndsAfter line.now (shape node.now) wanted from)
+        (λ end. IsNextEnd line.now (shape node.now) wanted from end × IsReadTo line.now end (shape node.now) wanted cells.new) }
 {
     for here in from..line.len() {
         // Nothing begins any more, and nothing is pending.
@@ -78,7 +78,7 @@ fn next_end(
             return None;
         }
         begin(is_start(line, wanted, here), entered);
-        step(part, 1, line, here, entered, cells);
+        step(node, 1, line, here, entered, cells);
         if is_end(line, wanted, here + 1, cells) {
             return Some(here + 1);
         }
@@ -87,7 +87,7 @@ fn next_end(
 }
 
 /// Whether a word that is looked for can begin at the position, which is no less than the least.
-fn is_start(line: &[u8], wanted: Wanted, at: usize) -> bool
+fn is_start(line: &[u8], wanted: WordRange, at: usize) -> bool
     requires least { wanted.first ≤ at }
     requires inside { at ≤ length line.now }
     ensures { IsTrue result ↔ IsStart line.now wanted at }
@@ -96,7 +96,7 @@ fn is_start(line: &[u8], wanted: Wanted, at: usize) -> bool
 }
 
 /// Whether the cell of the first copy is set, and a word that is looked for can end at the position.
-fn is_end(line: &[u8], wanted: Wanted, here: usize, cells: &[u64]) -> bool
+fn is_end(line: &[u8], wanted: WordRange, here: usize, cells: &[u64]) -> bool
     requires { 0 < length cells.now }
     ensures { result ≡ (at cells.now 0 && not (wanted.whole_words && is_word_after line.now here)) }
 {

@@ -5,7 +5,7 @@ ghost use Rattle.simulation.specs.Packing.{everywhere, gaps_of_both, gaps_of_eit
 ghost use Rattle.simulation.specs.Private.Reading.{HasNoFreeGap, IsFirstGap, IsFreeGap};
 
 use crate::ends::{follows_word, precedes_word};
-use crate::part::{Gaps, is_gap};
+use crate::node::{Gaps, is_gap};
 
 /// The empty word nowhere.
 pub(crate) fn nowhere() -> Gaps

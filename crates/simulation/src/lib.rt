@@ -5,8 +5,8 @@
 mod cells;
 mod ends;
 mod gaps;
+mod node;
 mod pack;
-mod part;
 mod run;
 mod sequence;
 mod simulation;

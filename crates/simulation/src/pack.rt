@@ -1,32 +1,32 @@
-//! The part that stands for a tree.
+//! The node that stands for a tree.
 
 ghost use Rattle.std.specs.Prelude.{◌≡◌, ℕ, ◌+◌, ◌-◌, ◌*◌, ◌≤◌, ◌<◌, IfOk, IfSome, IsTrue, None, Some, map, if◌then◌else◌};
 ghost use Rattle.ere.specs.Tree.{form, trees_of, repeat, Tree, Trees, more};
 ghost use Rattle.spans.specs.Spans.{Spans, SpansEach};
-ghost use Rattle.simulation.specs.Packing.{gaps_of_either, gaps_of_times, nowhere, IsSomePart, IsTreePart, IsTurns};
+ghost use Rattle.simulation.specs.Packing.{gaps_of_either, gaps_of_times, nowhere, IsSomeNode, IsTreeNode, IsTurns};
 ghost use Rattle.simulation.specs.Pending.{IsStride};
 ghost use Rattle.simulation.specs.Private.Sequences.{GoesOn, IsSequence};
 
 use crate::cells::{BITS, words_for};
 use crate::gaps::{either_gaps, everywhere, nowhere, only_at, times_gaps};
-use crate::part::{Counts, Gaps, Part, Sizes};
+use crate::node::{Gaps, Node, RepeatCounts, Sizes};
 use crate::run::set_of;
 use crate::sequence::{Packed, Sequence, is_nothing, no_bytes, no_sequence, settled, then};
 use ere::Ere;
 use std::alloc::{AllocError, Global};
 
-/// The part for some copies of a tree.
+/// The node for some copies of a tree.
 ///
 /// An `Err` means that memory ran out, or that its cells would take more words than can be counted.
 #[cycle(pack)]
 pub(crate) fn pack(alloc: Global, tree: &Ere, copies: usize) -> Result<Packed, AllocError>
     requires { 0 < copies }
-    ensures { IfOk result (λ packed. IsTreePart (form tree.now) packed copies) }
+    ensures { IfOk result (λ packed. IsTreeNode (form tree.now) packed copies) }
 {
     match tree {
         Ere::Empty => Ok(no_bytes(copies, everywhere())),
         Ere::Set(members) => Ok(Packed {
-            part: Part::Set(*members),
+            node: Node::Set(*members),
             size: words_for(copies),
             gaps: nowhere(),
         }),
@@ -159,11 +159,11 @@ fn then_turn(
     then(alloc, sequence, once(one, 0), copies)
 }
 
-/// The part for a word of one of the members.
+/// The node for a word of one of the members.
 #[cycle(pack)]
 fn pack_some(alloc: Global, members: &[Ere], copies: usize) -> Result<Packed, AllocError>
     requires { 0 < copies }
-    ensures { IfOk result (λ packed. IsSomePart (trees_of (map form members.now)) packed copies) }
+    ensures { IfOk result (λ packed. IsSomeNode (trees_of (map form members.now)) packed copies) }
 {
     let mut rest = no_bytes(copies, nowhere());
     for i in (0..members.len()).rev() {
@@ -173,7 +173,7 @@ fn pack_some(alloc: Global, members: &[Ere], copies: usize) -> Result<Packed, Al
     Ok(rest)
 }
 
-/// The part for at least `least` words of the body and at most `greatest`.
+/// The node for at least `least` words of the body and at most `greatest`.
 #[cycle(pack)]
 fn pack_repeat(
     alloc: Global,
@@ -183,7 +183,7 @@ fn pack_repeat(
     copies: usize,
 ) -> Result<Packed, AllocError>
     requires { 0 < copies }
-    ensures { IfOk result (λ packed. IsTreePart (repeat (form body.now) least greatest) packed copies) }
+    ensures { IfOk result (λ packed. IsTreeNode (repeat (form body.now) least greatest) packed copies) }
 {
     match greatest {
         Some(most) => {
@@ -209,7 +209,7 @@ fn pack_repeat(
     }
 }
 
-/// The part for a number of words that takes more than one turn.
+/// The node for a number of words that takes more than one turn.
 #[cycle(pack)]
 fn pack_times(
     alloc: Global,
@@ -222,7 +222,7 @@ fn pack_times(
     requires copies { 0 < copies }
     requires some { 1 < turns }
     requires counted { IsTurns least greatest turns }
-    ensures { IfOk result (λ packed. IsTreePart (repeat (form body.now) least greatest) packed copies) }
+    ensures { IfOk result (λ packed. IsTreeNode (repeat (form body.now) least greatest) packed copies) }
 {
     let Some(stride) = stride_for(copies) else {
         return Err(AllocError);
@@ -309,13 +309,13 @@ fn times(
     requires all { all ≡ turns * stride }
     requires some { 1 < turns }
     requires counted { IsTurns least greatest turns }
-    ensures { IfOk result (λ packed. (tree : Tree) → IsTreePart tree body all → IsTreePart (repeat tree least greatest) packed copies) }
+    ensures { IfOk result (λ packed. (tree : Tree) → IsTreeNode tree body all → IsTreeNode (repeat tree least greatest) packed copies) }
 {
     let own = words_for(copies);
     let Some(size) = own.checked_add(body.size) else {
         return Err(AllocError);
     };
-    let counts = Counts {
+    let counts = RepeatCounts {
         least: counted_least(least, body.gaps),
         copies: turns as usize,
         unbounded: greatest.is_none(),
@@ -325,8 +325,8 @@ fn times(
         all,
     };
     let gaps = times_gaps(least, body.gaps);
-    let part = Part::Times(Box::new(alloc, body.part)?, counts);
-    Ok(Packed { part, size, gaps })
+    let node = Node::Times(Box::new(alloc, body.node)?, counts);
+    Ok(Packed { node, size, gaps })
 }
 
 /// The least number of words that are not empty: none if others can be empty anywhere.
@@ -346,10 +346,10 @@ fn counted_gaps(gaps: Gaps) -> Gaps
 /// At most one word.
 fn once(one: Packed, least: u8) -> Packed
     requires { least ≤ 1 }
-    ensures { (tree : Tree) (copies : ℕ) → IsTreePart tree one copies → IsTreePart (repeat tree least (Some 1)) result copies }
+    ensures { (tree : Tree) (copies : ℕ) → IsTreeNode tree one copies → IsTreeNode (repeat tree least (Some 1)) result copies }
 {
     Packed {
-        part: one.part,
+        node: one.node,
         size: one.size,
         gaps: times_gaps(least, one.gaps),
     }
@@ -358,32 +358,32 @@ fn once(one: Packed, least: u8) -> Packed
 /// Any number of words, or one or more.
 fn looped(alloc: Global, one: Packed, least: u8, copies: usize) -> Result<Packed, AllocError>
     requires { least ≤ 1 }
-    ensures { IfOk result (λ packed. (tree : Tree) → IsTreePart tree one copies → IsTreePart (repeat tree least None) packed copies) }
+    ensures { IfOk result (λ packed. (tree : Tree) → IsTreeNode tree one copies → IsTreeNode (repeat tree least None) packed copies) }
 {
-    let part = Part::Loop(Box::new(alloc, one.part)?, words_for(copies));
+    let node = Node::Loop(Box::new(alloc, one.node)?, words_for(copies));
     Ok(Packed {
-        part,
+        node,
         size: one.size,
         gaps: times_gaps(least, one.gaps),
     })
 }
 
-/// A word of either part. Two sets become one.
+/// A word of either node. Two sets become one.
 fn either(alloc: Global, first: Packed, second: Packed, copies: usize) -> Result<Packed, AllocError>
-    ensures { IfOk result (λ packed. (tree : Tree) (trees : Trees) → IsTreePart tree first copies → IsSomePart trees second copies → IsSomePart (more tree trees) packed copies) }
+    ensures { IfOk result (λ packed. (tree : Tree) (trees : Trees) → IsTreeNode tree first copies → IsSomeNode trees second copies → IsSomeNode (more tree trees) packed copies) }
 {
     let gaps = either_gaps(first.gaps, second.gaps);
-    if is_nothing(&second.part) {
+    if is_nothing(&second.node) {
         return Ok(Packed {
-            part: first.part,
+            node: first.node,
             size: first.size,
             gaps,
         });
     }
-    if let Some(one) = set_of(&first.part) {
-        if let Some(two) = set_of(&second.part) {
+    if let Some(one) = set_of(&first.node) {
+        if let Some(two) = set_of(&second.node) {
             return Ok(Packed {
-                part: Part::Set(one.union(&two)),
+                node: Node::Set(one.union(&two)),
                 size: first.size,
                 gaps,
             });
@@ -400,10 +400,10 @@ fn either(alloc: Global, first: Packed, second: Packed, copies: usize) -> Result
         own,
         first: first.size,
     };
-    let left = Box::new(alloc, first.part)?;
-    let right = Box::new(alloc, second.part)?;
+    let left = Box::new(alloc, first.node)?;
+    let right = Box::new(alloc, second.node)?;
     Ok(Packed {
-        part: Part::Either(left, right, sizes),
+        node: Node::Either(left, right, sizes),
         size,
         gaps,
     })

@@ -2,13 +2,13 @@
 
 ghost use Rattle.std.specs.Prelude.{◌≡◌, ℕ, ◌+◌, ◌*◌, ◌<◌, ◌≤◌, ◌↔◌, ◌⊎◌, ◌∷◌, [], false, if◌then◌else◌, IsTrue, length, slice_index, IfOk, IfSome};
 ghost use Rattle.ere.specs.Bits.{has_bit};
-ghost use Rattle.simulation.specs.Parts.{set, shape};
+ghost use Rattle.simulation.specs.Nodes.{set, shape};
 ghost use Rattle.simulation.specs.Packing.{everywhere, nowhere};
-ghost use Rattle.simulation.specs.Private.Rows.{gaps_of_row, is_marked, AreMasks, IsMarked, IsPlace, IsRunOf, Passes};
+ghost use Rattle.simulation.specs.Private.Rows.{gaps_of_row, is_marked, AreMasks, IsMarked, IsRowSet, IsRunOf, Passes};
 
 use crate::cells::{BITS, both, either, word_if, words_for};
 use crate::gaps::{everywhere, is_everywhere, is_nowhere, nowhere};
-use crate::part::{Gaps, Part, Places};
+use crate::node::{Gaps, Node, RunLayout};
 use crate::turns::{lowest_bits, moved_down, moved_in};
 use ere::ByteSet;
 use std::alloc::{AllocError, Global};
@@ -18,7 +18,7 @@ const BYTES: usize = 256;
 
 /// A set that can be in a run.
 #[derive(Clone, Copy)]
-pub(crate) struct Place {
+pub(crate) struct RowSet {
     /// The set.
     pub(crate) members: ByteSet,
     /// Whether it can be left out.
@@ -68,23 +68,23 @@ fn is_on(on: u64, distance: usize) -> bool
     on != 0 && distance < BITS
 }
 
-/// The place that a part is, or `None` if it is none.
-pub(crate) fn place_of(part: &Part, gaps: Gaps) -> Option<Place>
-    ensures { IfSome result (λ place. IsPlace place (shape part.now) gaps) }
+/// The place that a node is, or `None` if it is none.
+pub(crate) fn place_of(node: &Node, gaps: Gaps) -> Option<RowSet>
+    ensures { IfSome result (λ place. IsRowSet place (shape node.now) gaps) }
 {
     let optional = is_everywhere(gaps);
     if !is_gap_of(optional, gaps) {
         return None;
     }
-    match part {
-        Part::Set(members) => Some(Place {
+    match node {
+        Node::Set(members) => Some(RowSet {
             members: *members,
             optional,
             repeated: false,
         }),
-        Part::Loop(body, _) => {
+        Node::Loop(body, _) => {
             let members = set_of(body)?;
-            Some(Place {
+            Some(RowSet {
                 members,
                 optional,
                 repeated: true,
@@ -94,12 +94,12 @@ pub(crate) fn place_of(part: &Part, gaps: Gaps) -> Option<Place>
     }
 }
 
-/// The set that the part is, or `None` if it is none.
-pub(crate) fn set_of(part: &Part) -> Option<ByteSet>
-    ensures { IfSome result (λ members. shape part.now ≡ set members) }
+/// The set that the node is, or `None` if it is none.
+pub(crate) fn set_of(node: &Node) -> Option<ByteSet>
+    ensures { IfSome result (λ members. shape node.now ≡ set members) }
 {
-    match part {
-        Part::Set(members) => Some(*members),
+    match node {
+        Node::Set(members) => Some(*members),
         _ => None,
     }
 }
@@ -116,7 +116,7 @@ fn is_gap_of(empty: bool, gaps: Gaps) -> bool
 }
 
 /// Where all places of a row can be left out: everywhere or nowhere.
-pub(crate) fn gaps_of_row(row: &[Place]) -> Gaps
+pub(crate) fn gaps_of_row(row: &[RowSet]) -> Gaps
     ensures { result ≡ gaps_of_row row.now }
 {
     for i in 0..row.len() {
@@ -127,38 +127,38 @@ pub(crate) fn gaps_of_row(row: &[Place]) -> Gaps
     everywhere()
 }
 
-/// The places as one part. An `Err` means that memory ran out.
-pub(crate) fn run_of(alloc: Global, row: &[Place], copies: usize) -> Result<Part, AllocError>
+/// The places as one node. An `Err` means that memory ran out.
+pub(crate) fn run_of(alloc: Global, row: &[RowSet], copies: usize) -> Result<Node, AllocError>
     requires some { (0 < length row.now) × (0 < copies) }
     requires fits { length row.now * copies + copies ≤ 64 }
-    ensures { IfOk result (λ part. IsRunOf row.now (shape part) copies) }
+    ensures { IfOk result (λ node. IsRunOf row.now (shape node) copies) }
 {
     if row.len() == 1 {
         return one_place(alloc, &row[0], copies);
     }
     let masks = masks_of(alloc, row, copies)?;
-    let places = Places {
+    let places = RunLayout {
         stride: copies,
         after: row.len() - 1,
         optional: marks(row, Mark::Optional, copies),
         repeated: marks(row, Mark::Repeated, copies),
     };
-    Ok(Part::Run(masks, places))
+    Ok(Node::Run(masks, places))
 }
 
-/// One place as a part, which takes less time than a run. An `Err` means that memory ran out.
-fn one_place(alloc: Global, place: &Place, copies: usize) -> Result<Part, AllocError>
-    ensures { IfOk result (λ part. IsRunOf (place.now ∷ []) (shape part) copies) }
+/// One place as a node, which takes less time than a run. An `Err` means that memory ran out.
+fn one_place(alloc: Global, place: &RowSet, copies: usize) -> Result<Node, AllocError>
+    ensures { IfOk result (λ node. IsRunOf (place.now ∷ []) (shape node) copies) }
 {
-    let set = Part::Set(place.members);
+    let set = Node::Set(place.members);
     if !place.repeated {
         return Ok(set);
     }
-    Ok(Part::Loop(Box::new(alloc, set)?, words_for(copies)))
+    Ok(Node::Loop(Box::new(alloc, set)?, words_for(copies)))
 }
 
 /// For each byte, which of the places have it.
-fn masks_of(alloc: Global, row: &[Place], copies: usize) -> Result<Vec<u64>, AllocError>
+fn masks_of(alloc: Global, row: &[RowSet], copies: usize) -> Result<Vec<u64>, AllocError>
     requires some { 0 < copies }
     requires fits { length row.now * copies + copies ≤ 64 }
     ensures { IfOk result (λ masks. AreMasks masks.items copies row.now) }
@@ -171,7 +171,7 @@ fn masks_of(alloc: Global, row: &[Place], copies: usize) -> Result<Vec<u64>, All
 }
 
 /// A bit for each copy of the places that have the mark.
-fn marks(row: &[Place], mark: Mark, copies: usize) -> u64
+fn marks(row: &[RowSet], mark: Mark, copies: usize) -> u64
     requires some { 0 < copies }
     requires fits { length row.now * copies + copies ≤ 64 }
     ensures { IsMarked result copies (is_marked mark) row.now }
@@ -184,7 +184,7 @@ fn marks(row: &[Place], mark: Mark, copies: usize) -> u64
 }
 
 /// A bit for each copy of one place, if it has the mark.
-fn marks_of(place: &Place, mark: Mark, copies: usize) -> u64
+fn marks_of(place: &RowSet, mark: Mark, copies: usize) -> u64
     requires { (0 < copies) × (copies < 64) }
     ensures low { (b : ℕ) → b < copies → has_bit result b ≡ is_marked mark place.now }
     ensures high { (b : ℕ) → copies ≤ b → has_bit result b ≡ false }
@@ -193,7 +193,7 @@ fn marks_of(place: &Place, mark: Mark, copies: usize) -> u64
 }
 
 /// Whether the place has the mark.
-fn has_mark(place: &Place, mark: Mark) -> bool
+fn has_mark(place: &RowSet, mark: Mark) -> bool
     ensures { result ≡ is_marked mark place.now }
 {
     match mark {

@@ -1,35 +1,35 @@
-//! Parts one after the other.
+//! Nodes one after the other.
 
 ghost use Rattle.std.specs.Prelude.{◌≡◌, ◌+◌, ◌*◌, ◌<◌, ◌≤◌, ◌∷◌, [], length, IfOk, IsTrue};
-ghost use Rattle.simulation.specs.Parts.{nothing, shape};
+ghost use Rattle.simulation.specs.Nodes.{nothing, shape};
 ghost use Rattle.simulation.specs.Pending.{words_for};
-ghost use Rattle.simulation.specs.Private.Rows.{OfPlaces};
+ghost use Rattle.simulation.specs.Private.Rows.{OfRow};
 ghost use Rattle.simulation.specs.Private.Sequences.{AreSame, GoesOn, Holds, IsFor, IsSequence, Then, WordsOf, WordsOfSequence};
 
 use crate::cells::{BITS, words_for};
 use crate::gaps::{both_gaps, everywhere, is_everywhere};
-use crate::part::{Gaps, Part, Sizes};
-use crate::run::{Place, gaps_of_row, place_of, run_of};
+use crate::node::{Gaps, Node, Sizes};
+use crate::run::{RowSet, gaps_of_row, place_of, run_of};
 use std::alloc::{AllocError, Global};
 
-/// A part, how many words its cells take, and where its tree has the empty word.
+/// A node, how many words its cells take, and where its tree has the empty word.
 #[derive(Drop)]
 pub(crate) struct Packed {
-    /// The part.
-    pub(crate) part: Part,
+    /// The node.
+    pub(crate) node: Node,
     /// How many words of 64 bits its cells take, with those of its members.
     pub(crate) size: usize,
     /// Where its tree has the empty word.
     pub(crate) gaps: Gaps,
 }
 
-/// What has been packed of a sequence: a part, and the places of a run after it, whose masks are still to be made.
+/// What has been packed of a sequence: a node, and the places of a run after it, whose masks are still to be made.
 #[derive(Drop)]
 pub(crate) struct Sequence {
-    /// The part.
+    /// The node.
     pub(crate) before: Packed,
     /// The places.
-    pub(crate) row: Vec<Place>,
+    pub(crate) row: Vec<RowSet>,
 }
 
 /// A sequence of nothing yet.
@@ -40,7 +40,7 @@ pub(crate) fn no_sequence(alloc: Global, copies: usize) -> Sequence
     after(alloc, no_bytes(copies, everywhere()))
 }
 
-/// A sequence of one part.
+/// A sequence of one node.
 fn after(alloc: Global, before: Packed) -> Sequence
     ensures before { result.before ≡ before }
     ensures row { result.row.items ≡ [] }
@@ -51,7 +51,7 @@ fn after(alloc: Global, before: Packed) -> Sequence
     }
 }
 
-/// The sequence, and then a part. Sets in a row become one part, also if they can be left out or repeated.
+/// The sequence, and then a node. Sets in a row become one node, also if they can be left out or repeated.
 ///
 /// An `Err` means that memory ran out, or that its cells would take more words than can be counted.
 pub(crate) fn then(
@@ -66,7 +66,7 @@ pub(crate) fn then(
     ensures { IfOk result (λ longer. GoesOn (WordsOf one) sequence longer copies) }
 {
     if copies <= BITS / 2 {
-        if let Some(place) = place_of(&one.part, one.gaps) {
+        if let Some(place) = place_of(&one.node, one.gaps) {
             return then_place(alloc, sequence, place, copies);
         }
     }
@@ -78,12 +78,12 @@ pub(crate) fn then(
 fn then_place(
     alloc: Global,
     sequence: Sequence,
-    place: Place,
+    place: RowSet,
     copies: usize,
 ) -> Result<Sequence, AllocError>
     requires some { (0 < copies) × (copies ≤ 32) }
     requires valid { IsSequence sequence copies }
-    ensures { IfOk result (λ longer. GoesOn (OfPlaces (place ∷ [])) sequence longer copies) }
+    ensures { IfOk result (λ longer. GoesOn (OfRow (place ∷ [])) sequence longer copies) }
 {
     let mut longer = with_room(alloc, sequence, copies)?;
     longer.row.push(place)?;
@@ -104,7 +104,7 @@ fn with_room(alloc: Global, sequence: Sequence, copies: usize) -> Result<Sequenc
     Ok(after(alloc, settled(alloc, sequence, copies)?))
 }
 
-/// The whole sequence as one part.
+/// The whole sequence as one node.
 ///
 /// An `Err` means that memory ran out, or that its cells would take more words than can be counted.
 pub(crate) fn settled(
@@ -120,20 +120,20 @@ pub(crate) fn settled(
         return Ok(sequence.before);
     }
     let rest = Packed {
-        part: run_of(alloc, &sequence.row, copies)?,
+        node: run_of(alloc, &sequence.row, copies)?,
         size: words_for(copies),
         gaps: gaps_of_row(&sequence.row),
     };
     pair(alloc, sequence.before, rest, copies)
 }
 
-/// A word of one part and then a word of another.
+/// A word of one node and then a word of another.
 fn pair(alloc: Global, first: Packed, second: Packed, copies: usize) -> Result<Packed, AllocError>
     requires first { IsFor first copies }
     requires second { IsFor second copies }
     ensures { IfOk result (λ packed. Holds (Then (WordsOf first) (WordsOf second)) packed copies) }
 {
-    if is_nothing(&first.part) && is_everywhere(first.gaps) {
+    if is_nothing(&first.node) && is_everywhere(first.gaps) {
         return Ok(second);
     }
     let own = words_for(copies);
@@ -148,34 +148,34 @@ fn pair(alloc: Global, first: Packed, second: Packed, copies: usize) -> Result<P
         own,
         first: first.size,
     };
-    let left = Box::new(alloc, first.part)?;
-    let right = Box::new(alloc, second.part)?;
+    let left = Box::new(alloc, first.node)?;
+    let right = Box::new(alloc, second.node)?;
     Ok(Packed {
-        part: Part::Both(left, right, sizes, first.gaps, second.gaps),
+        node: Node::Both(left, right, sizes, first.gaps, second.gaps),
         size,
         gaps,
     })
 }
 
-/// A part without words, and where the empty word is.
+/// A node without words, and where the empty word is.
 pub(crate) fn no_bytes(copies: usize, gaps: Gaps) -> Packed
-    ensures part { shape result.part ≡ nothing }
+    ensures node { shape result.node ≡ nothing }
     ensures size { result.size ≡ words_for copies }
     ensures gaps { result.gaps ≡ gaps }
 {
     Packed {
-        part: Part::Nothing,
+        node: Node::Nothing,
         size: words_for(copies),
         gaps,
     }
 }
 
-/// Whether the part has no words.
-pub(crate) fn is_nothing(part: &Part) -> bool
-    ensures { IsTrue result → shape part.now ≡ nothing }
+/// Whether the node has no words.
+pub(crate) fn is_nothing(node: &Node) -> bool
+    ensures { IsTrue result → shape node.now ≡ nothing }
 {
-    match part {
-        Part::Nothing => true,
+    match node {
+        Node::Nothing => true,
         _ => false,
     }
 }

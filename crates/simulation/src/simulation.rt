@@ -1,24 +1,24 @@
 //! The simulation of a tree.
 
 ghost use Rattle.std.specs.Prelude.{◌≡◌, ◌||◌, length};
-ghost use Rattle.simulation.specs.Parts.{is_gap};
+ghost use Rattle.simulation.specs.Nodes.{is_gap};
 ghost use Rattle.simulation.specs.Private.Reading.{least_past};
 
-use crate::ends::{Wanted, has_word, last_end};
+use crate::ends::{WordRange, has_word, last_end};
 use crate::gaps::first_gap;
+use crate::node::{Gaps, Node, begins_at_start, is_gap};
 use crate::pack::pack;
-use crate::part::{Gaps, Part, begins_at_start, is_gap};
 use ere::Ere;
 use std::alloc::{AllocError, Global};
 
 /// What is needed to look for matches of one tree in lines of any length.
 ///
-/// The tree is packed into parts. Each part has one cell for each of its copies, which are what a repeat of the tree
-/// around it would write out. A byte of a line is read by one walk through the parts. As far as is measured, its time
-/// depends on the parts and the words of their cells alone.
+/// The tree is packed into nodes. Each node has one cell for each of its copies, which are what a repeat of the tree
+/// around it would write out. A byte of a line is read by one walk through the nodes. As far as is measured, its time
+/// depends on the nodes and the words of their cells alone.
 #[derive(Drop)]
 pub struct Simulation {
-    part: Part,
+    node: Node,
     // Where the tree has the empty word.
     gaps: Gaps,
     // Whether each of its words that is not empty begins at the line's start.
@@ -45,9 +45,9 @@ impl Simulation {
         ensures { IfOk result (IsSimulationOf (form tree.now)) }
     {
         let packed = pack(alloc, tree, 1)?;
-        let at_start = begins_at_start(&packed.part);
+        let at_start = begins_at_start(&packed.node);
         Ok(Simulation {
-            part: packed.part,
+            node: packed.node,
             gaps: packed.gaps,
             at_start,
             entered: vec![in alloc; 0; packed.size]?,
@@ -67,7 +67,7 @@ impl Simulation {
             return true;
         }
         let all = wanted(self.at_start, 0, line.len(), false);
-        has_word(&self.part, line, all, &mut self.entered, &mut self.cells)
+        has_word(&self.node, line, all, &mut self.entered, &mut self.cells)
     }
 
     /// Whether a match that is not empty begins at some position from `first` up to but not including `past`. With
@@ -83,7 +83,7 @@ impl Simulation {
             → MatchBool result (SomeSpanBegins line.now tree whole_words first past) (NoSpanBegins line.now tree whole_words first past) }
     {
         let block = wanted(self.at_start, first, past, whole_words);
-        has_word(&self.part, line, block, &mut self.entered, &mut self.cells)
+        has_word(&self.node, line, block, &mut self.entered, &mut self.cells)
     }
 
     /// The end of the longest match that begins at the position and is not empty, or `None` if there is none, as from the
@@ -103,7 +103,7 @@ impl Simulation {
             return None;
         }
         let only = wanted(self.at_start, start, start + 1, whole_words);
-        last_end(&self.part, line, only, &mut self.entered, &mut self.cells)
+        last_end(&self.node, line, only, &mut self.entered, &mut self.cells)
     }
 
     /// The least position of an empty match, from 0 to the line's length, or `None` if there is none. With `whole_words` only
@@ -129,10 +129,10 @@ fn has_gap(gaps: Gaps, line: &[u8]) -> bool
 }
 
 /// The words that begin at one of these positions. They cannot begin behind the line's start if `at_start`.
-fn wanted(at_start: bool, first: usize, past: usize, whole_words: bool) -> Wanted
+fn wanted(at_start: bool, first: usize, past: usize, whole_words: bool) -> WordRange
     ensures { result ≡ (record { first = first; past = least_past at_start past; whole_words = whole_words }) }
 {
-    Wanted {
+    WordRange {
         first,
         past: if at_start { past.min(1) } else { past },
         whole_words,

@@ -1,11 +1,11 @@
 //! One byte of the line.
 
 ghost use Rattle.std.specs.Prelude.{◌≡◌, ℕ, suc, ◌+◌, ◌*◌, ◌<◌, ◌≤◌, length};
-ghost use Rattle.simulation.specs.Parts.{shape, set, run, both, either, loop, times};
+ghost use Rattle.simulation.specs.Nodes.{shape, set, run, both, either, loop, times};
 ghost use Rattle.simulation.specs.Pending.{Advances, IsReady, IsRun, words_for};
 
 use crate::cells::{add, both as and, copy, either as or, either_if, keep_if};
-use crate::part::{Counts, Gaps, Part, Places, Sizes, is_gap};
+use crate::node::{Gaps, Node, RepeatCounts, RunLayout, Sizes, is_gap};
 use crate::run::passed_on;
 use crate::turns::{any_turn, begin_turns, lowest_bits, lowest_turn, moved_down, moved_in};
 use ere::ByteSet;
@@ -13,30 +13,30 @@ use ere::ByteSet;
 /// Reads the byte after a position of the line.
 #[cycle(step)]
 pub(crate) fn step(
-    part: &Part,
+    node: &Node,
     copies: usize,
     line: &[u8],
     here: usize,
     entered: &mut [u64],
     cells: &mut [u64],
 )
-    requires { IsReady line.now here (shape part.now) copies entered.old cells.old }
-    ensures { Advances line.now here (shape part.now) copies entered.old cells.old cells.new }
+    requires { IsReady line.now here (shape node.now) copies entered.old cells.old }
+    ensures { Advances line.now here (shape node.now) copies entered.old cells.old cells.new }
 {
-    match part {
-        Part::Nothing => {}
-        Part::Set(members) => step_set(members, copies, line, here, entered, cells),
-        Part::Run(masks, places) => step_run(masks, *places, copies, line, here, entered, cells),
-        Part::Both(left, right, sizes, before, after) => {
+    match node {
+        Node::Nothing => {}
+        Node::Set(members) => step_set(members, copies, line, here, entered, cells),
+        Node::Run(masks, places) => step_run(masks, *places, copies, line, here, entered, cells),
+        Node::Both(left, right, sizes, before, after) => {
             step_both(
                 left, right, *sizes, *before, *after, copies, line, here, entered, cells,
             )
         }
-        Part::Either(left, right, sizes) => step_either(
+        Node::Either(left, right, sizes) => step_either(
             left, right, *sizes, copies, line, here, entered, cells,
         ),
-        Part::Loop(body, own) => step_loop(body, *own, copies, line, here, entered, cells),
-        Part::Times(body, counts) => step_times(body, *counts, copies, line, here, entered, cells),
+        Node::Loop(body, own) => step_loop(body, *own, copies, line, here, entered, cells),
+        Node::Times(body, counts) => step_times(body, *counts, copies, line, here, entered, cells),
     }
 }
 
@@ -61,7 +61,7 @@ fn step_set(
 #[inline(always)]
 fn step_run(
     masks: &[u64],
-    places: Places,
+    places: RunLayout,
     copies: usize,
     line: &[u8],
     here: usize,
@@ -86,8 +86,8 @@ fn step_run(
 
 #[cycle(step)]
 fn step_both(
-    left: &Part,
-    right: &Part,
+    left: &Node,
+    right: &Node,
     sizes: Sizes,
     before: Gaps,
     after: Gaps,
@@ -119,8 +119,8 @@ fn step_both(
 
 #[cycle(step)]
 fn step_either(
-    left: &Part,
-    right: &Part,
+    left: &Node,
+    right: &Node,
     sizes: Sizes,
     copies: usize,
     line: &[u8],
@@ -144,7 +144,7 @@ fn step_either(
 
 #[cycle(step)]
 fn step_loop(
-    body: &Part,
+    body: &Node,
     own: usize,
     copies: usize,
     line: &[u8],
@@ -161,8 +161,8 @@ fn step_loop(
 
 #[cycle(step)]
 fn step_times(
-    body: &Part,
-    counts: Counts,
+    body: &Node,
+    counts: RepeatCounts,
     copies: usize,
     line: &[u8],
     here: usize,

@@ -2,17 +2,23 @@
 
 ghost use Rattle.std.specs.Prelude.{◌≡◌, ℕ, suc, ◌+◌, ◌-◌, ◌*◌, ◌/◌, ◌<◌, ◌≤◌, ◌↔◌, ◌&&◌, ◌||◌, ◌==◌, ◌⊎◌, nat_le, false, if◌then◌else◌, nat_lt, IsTrue, length, slice_index};
 ghost use Rattle.ere.specs.Bits.{has_bit};
-ghost use Rattle.simulation.specs.Parts.{Suffices};
+ghost use Rattle.simulation.specs.Nodes.{Suffices};
 ghost use Rattle.simulation.specs.Pending.{at, room, words_for, AnyTurn, Enters, IsNarrow};
 ghost use Rattle.simulation.specs.Private.Words.{repeated, shifted, AnyPart, AnyWithin, IsWithin};
 
 use crate::cells::{BITS, copy, either, keep_if, words_for};
-use crate::part::{Counts, is_gap};
+use crate::node::{RepeatCounts, is_gap};
 
 /// What begins in each copy of the body: in the first turn what is entered, in the others what the turn before has
 /// read, and in the last turn of an unbounded number what it has read itself. If the body can be empty here, what is
 /// entered begins in every turn.
-pub(crate) fn begin_turns(counts: Counts, gap: bool, entered: &[u64], read: &[u64], out: &mut [u64])
+pub(crate) fn begin_turns(
+    counts: RepeatCounts,
+    gap: bool,
+    entered: &[u64],
+    read: &[u64],
+    out: &mut [u64],
+)
     requires some { (0 < counts.copies) × (0 < counts.stride) }
     requires all { counts.all ≡ counts.copies * counts.stride }
     requires stride { IsNarrow counts.stride ⊎ (counts.stride ≡ room entered.now) }
@@ -111,7 +117,7 @@ fn add_repeated(on: bool, stride: usize, all: usize, entered: &[u64], to: &mut [
 }
 
 /// What some turn from the lowest on has read.
-pub(crate) fn any_turn(counts: Counts, lowest: usize, read: &[u64], own: &mut [u64])
+pub(crate) fn any_turn(counts: RepeatCounts, lowest: usize, read: &[u64], own: &mut [u64])
     requires some { (0 < counts.copies) × (0 < counts.stride) }
     requires all { counts.all ≡ counts.copies * counts.stride }
     requires stride { IsNarrow counts.stride ⊎ (counts.stride ≡ room own.old) }
@@ -127,7 +133,7 @@ pub(crate) fn any_turn(counts: Counts, lowest: usize, read: &[u64], own: &mut [u
 }
 
 /// Does what `any_turn` does, for a stride of less than a word.
-fn any_narrow(counts: Counts, lowest: usize, read: &[u64]) -> u64
+fn any_narrow(counts: RepeatCounts, lowest: usize, read: &[u64]) -> u64
     requires all { counts.all ≡ counts.copies * counts.stride }
     requires stride { IsNarrow counts.stride }
     requires read { counts.all ≤ room read.now }
@@ -182,7 +188,7 @@ fn folded(word: u64, stride: usize) -> u64
 }
 
 /// Does what `any_turn` does, for a stride of whole words.
-fn any_wide(counts: Counts, lowest: usize, read: &[u64], own: &mut [u64])
+fn any_wide(counts: RepeatCounts, lowest: usize, read: &[u64], own: &mut [u64])
     requires all { counts.all ≡ counts.copies * counts.stride }
     requires some { 0 < counts.copies }
     requires stride { counts.stride ≡ room own.old }
@@ -207,7 +213,7 @@ fn add_at(from: usize, more: &[u64], to: &mut [u64])
 }
 
 /// The lowest turn that is enough.
-pub(crate) fn lowest_turn(counts: Counts, line: &[u8], here: usize) -> usize
+pub(crate) fn lowest_turn(counts: RepeatCounts, line: &[u8], here: usize) -> usize
     ensures { (turn : ℕ) → (result ≤ turn) ↔ Suffices line.now counts (suc turn) here }
 {
     if is_gap(counts.gaps, line, here) {

@@ -1,47 +1,36 @@
--- What holds of a run so far, and that a run is legal at its end.
-use Rattle.std.proofs.Common.{◌≡◌, ℕ, zero, suc, ◌+◌, ◌≤◌, ◌<◌, ◌⊎◌, inl, inr, true, false, List, [], ◌∷◌, ◌++◌, length, Option, Some, None, refl, sym, ap}
-use Rattle.std.proofs.Common.{◌∙◌, subst, arith, append_assoc}
-use Rattle.std.proofs.lemmas.List.{append-nil, length-replicate}
-use Rattle.std.proofs.lemmas.List.Elements.{All-replicate}
+-- What holds of a run so far.
+use Rattle.std.proofs.Common.{◌≡◌, ◌≢◌, ℕ, ◌+◌, inl, inr, false, List, [], ◌∷◌, ◌++◌, Option, Some, None, refl, sym, ap, ◌∙◌, subst, arith, append_assoc}
+use Rattle.std.proofs.lemmas.List.{append-nil}
 use Rattle.std.proofs.lemmas.List.Sums.{sum_by-append}
-use Rattle.std.proofs.lemmas.List.Sorted.{IsPermutation-refl, IsPermutation-trans, IsPermutation-append_left}
-use Rattle.std.specs.Prelude.{Contains, IsPermutation, Result, Ok, Err, OnOk}
-use Rattle.script.specs.Items.{Item, Numbered, ItemsFrom, IsItemsOf, search, search_in, find}
-use Rattle.script.specs.Position.{Position, position}
-use Rattle.script.specs.Reading as reading
+use Rattle.std.proofs.lemmas.List.Sorted.{IsPermutation-trans, IsPermutation-append_left}
+use Rattle.script.specs.Items.{Item, Numbered, numbered}
+use Rattle.input.specs.declared.owned.OwnedItem.{OwnedItem}
+use Rattle.input.specs.declared.owned.OwnedItem.TheVariants as owned
+use Rattle.input.specs.Owned.{ShowsOwned}
 use Rattle.transcript.specs.declared.entry.Entry.{Entry}
-use Rattle.transcript.specs.declared.entry.Entry.TheVariants.{SearchRefused}
-use Rattle.transcript.specs.declared.entry.Entry.TheVariants as entry_of
-use Rattle.transcript.specs.declared.entry.SearchReason.TheVariants.{OutOfMemory}
-use Rattle.steps.specs.Rows.{Row, entries_of, list_of, version_in, last_or, is_sync, searches_of, count_searches, failures_in, count_failures}
+use Rattle.steps.specs.Rows.{Row, entries_of, list_of, is_sync, searches_of, count_searches, failures_in}
 use Rattle.steps.specs.LegalRows.{IsFailedTimes}
 use Rattle.steps.specs.Entries.{failures_of}
-use Rattle.steps.specs.Steps.{RunState, IsStep, Runs, begins, goes_on, IsFirst, MayTake, last}
+use Rattle.steps.specs.Steps.{IsStep, goes_on, MayTake}
 use Rattle.steps.specs.Steps as steps
-use Rattle.steps.specs.StepRows.{AreNext, AreRows, HasOwnEntry, IsOfSearch, open_of, open_in, searches_in, with_its_entry}
+use Rattle.steps.specs.StepRows.{AreNext, IsOfSearch, searches_in}
 use Rattle.steps.specs.StepRows as rows_of
 use Rattle.steps.proofs.RowLemmas.{count_searches-push}
-use Rattle.steps.proofs.RunLemmas.{next_items, next_entries, same_failures}
-use Rattle.steps.proofs.StepLemmas.{first_rows, next_rows, each_is_legal, are_in_turn}
-use Rattle.service.specs.Service.{ServiceState, first_service, run_of, Fits, Steps, Takes, Gives, versions_in}
+use Rattle.steps.proofs.RunLemmas.{next_items, next_entries}
+use Rattle.steps.proofs.StepLemmas.{next_rows}
+use Rattle.service.specs.Service.{ServiceState, IsCounted, Steps, Takes, Gives, run_of, versions_in}
 use Rattle.service.specs.Service as service
-use Rattle.service.specs.Collected.{CollectedState, IsCollected, number_in, place_in, place_by, slot_by, pushed, filled}
-use Rattle.service.specs.Service.{IsCounted}
 use Rattle.service.proofs.ServiceLemmas.{gives_step}
-use Rattle.service.proofs.CollectedLemmas.{AreAnswered, slots_at_end, collected_more, collected_same, collected_filled}
-use Rattle.tsearch.specs.declared.run.Options.{Options}
-use Rattle.tsearch.specs.Legal.{IsLegal, limits_in}
-use Rattle.tsearch.specs.Private.Running.{first_run, IsRunning, TakesOne, AreFilled, none, one_more}
-use Rattle.steps.proofs.SourceLemmas.{runs_mapped}
-use Rattle.tsearch.proofs.HeldLemmas.{rows_mapped}
-
-pub on_ok : {X E P Q : Type 0} (r : Result X E) → (P → Q) → OnOk r P → OnOk r Q
-on_ok (Ok x) f p = f p
-on_ok (Err e) f p = p
+use Rattle.tsearch.specs.declared.sink.News.{News}
+use Rattle.tsearch.specs.declared.sink.News.TheVariants as news
+use Rattle.tsearch.specs.Private.Running.{Start, Now, now, Told, entered, opened, passed, answered, entries_by, first_run, IsRunning, IsStopped}
+use Rattle.tsearch.specs.Private.Running.{Answers, AnswersFront}
+use Rattle.tsearch.specs.Private.Running as running
+use Rattle.tsearch.specs.Private.Serving.{MayTakeNow, settled, beside}
 
 -- How often the source has failed.
 
-none_failed : (failed : ℕ) → IsCounted 0 failed failed
+pub none_failed : (failed : ℕ) → IsCounted 0 failed failed
 none_failed failed = record { rises = inl (omega arith); stays = λ full. full }
 
 counted_more : (n m a b c : ℕ) → IsCounted n a b → IsCounted m b c → IsCounted (n + m) a c
@@ -52,27 +41,17 @@ counted_more n m a b c first next = record { rises = by first.rises next.rises; 
     by (inl is) (inr is') = inr (is'.0, omega (arith, is, is'.1))
     by (inr is) h = inr (next.stays is.0, omega (arith, is.1))
 
-next_failures : (rows rows' : List Row) (taken : List Numbered) (written : List Entry) → AreNext rows taken written rows'
-    → count_failures rows' ≡ count_failures rows + failures_of written
-next_failures rows rows' taken written next =
-    same_failures rows' (entries_of rows ++ written) (next_entries rows taken written rows' next)
-    ∙ sum_by-append (λ entry. failures_in (Some entry)) (entries_of rows) written
-    ∙ ap (λ n. n + failures_of written) (sym (same_failures rows (entries_of rows) (IsPermutation-refl (entries_of rows))))
+counted_written : (entries more : List Entry) (a b c : ℕ) → IsCounted (failures_of entries) a b → IsCounted (failures_of more) b c
+    → IsCounted (failures_of (entries ++ more)) a c
+counted_written entries more a b c first next =
+    subst (λ n. IsCounted n a c) (sym (sum_by-append (λ entry. failures_in (Some entry)) entries more))
+    (counted_more (failures_of entries) (failures_of more) a b c first next)
+
+-- the failures of one entry
+pub counted_one : (entry : Entry) (a b : ℕ) → IsCounted (failures_in (Some entry)) a b → IsCounted (failures_of (entry ∷ [])) a b
+counted_one entry a b counted = let same : failures_in (Some entry) ≡ failures_of (entry ∷ []) = omega arith in subst (λ n. IsCounted n a b) same counted
 
 -- What an entry and its item have in common.
-
-number_of_search : (number : ℕ) (entry : Entry) → IsOfSearch number entry → number_in entry ≡ number
-number_of_search number _ (rows_of.found reader turn answer) = refl
-number_of_search number _ (rows_of.refused why) = refl
-
--- Where an entry has its place.
-place_of_entry : (at : ℕ) (entry : Entry) → place_in at entry ≡ place_by at (searches_in entry)
-place_of_entry at (entry_of.Accepted line commands) = refl
-place_of_entry at (entry_of.Refused line why) = refl
-place_of_entry at (entry_of.Published line version) = refl
-place_of_entry at (entry_of.Found number reader turn answer) = refl
-place_of_entry at (entry_of.SearchRefused number why) = refl
-place_of_entry at (entry_of.Status line version documents bytes accepted most waiting) = refl
 
 one_of_search : (number : ℕ) (entry : Entry) → IsOfSearch number entry → searches_in entry ≡ 1
 one_of_search number _ (rows_of.found reader turn answer) = refl
@@ -91,305 +70,211 @@ none_of_none : (entry : Option Entry) → [] ≡ list_of entry → entry ≡ Non
 none_of_none None is = refl
 none_of_none (Some e') is = cc
 
+no_sync_shown : (o : OwnedItem) (i : Item) → o ≢ owned.Sync → ShowsOwned o i → is_sync i ≡ false
+no_sync_shown (owned.Put name body) i other shows = ap is_sync shows
+no_sync_shown (owned.LongPut name) i other shows = ap is_sync shows.1
+no_sync_shown (owned.LostPut name) i other shows = ap is_sync shows.1
+no_sync_shown (owned.Load name path) i other shows = ap is_sync shows
+no_sync_shown (owned.Remove name) i other shows = ap is_sync shows
+no_sync_shown owned.Publish i other shows = ap is_sync shows
+no_sync_shown (owned.Search case pattern) i other shows = ap is_sync shows
+no_sync_shown (owned.SearchIn case name_pattern pattern) i other shows = ap is_sync shows
+no_sync_shown (owned.Find text) i other shows = ap is_sync shows
+no_sync_shown owned.Sync i other shows = absurd (other refl)
+no_sync_shown (owned.Cancel number) i other shows = ap is_sync shows
+no_sync_shown owned.Status i other shows = ap is_sync shows
+no_sync_shown owned.BadLine i other shows = ap is_sync shows
+no_sync_shown owned.BadPut i other shows = ap is_sync shows
+no_sync_shown owned.Truncated i other shows = ap is_sync shows
+no_sync_shown owned.BodyNotClosed i other shows = ap is_sync shows
+
+may_take : (readers : ℕ) (s : ServiceState) (published : List ℕ) (o : OwnedItem) (i : Item) → ShowsOwned o i → MayTakeNow readers s o
+    → MayTake readers (run_of s published) i
+may_take readers s published o i shows (settled empty) = steps.settled empty
+may_take readers s published o i shows (beside some no_sync) = steps.beside some (no_sync_shown o i no_sync shows)
+
 -- A run that takes a step.
-module _ (Holds : List ℕ → List ℕ → Type 0) (options : Options) (first : ℕ) (items : List Numbered) (old : ServiceState)
-    (collected : CollectedState) (failed : ℕ) (was : IsRunning Holds options first items old collected failed) where
-  steps_on : (taken : List Numbered) (written : List Entry) (new : ServiceState) (published' : List ℕ) (collected' : CollectedState) (failed' : ℕ)
-      → Steps Holds options.readers old was.published taken written new published'
-      → ((rows' : List Row) → AreNext was.rows taken written rows' → new.searches ≡ count_searches rows' → IsCollected rows' collected')
-      → IsCounted (failures_of written) failed failed' → IsRunning Holds options first (items ++ taken) new collected' failed'
-  steps_on taken written new published' collected' failed' step collects counts =
-      let one : IsStep Holds (limits_in options) options.readers (run_of old was.published) taken written (run_of new published') =
-      subst (λ limits. IsStep Holds limits options.readers (run_of old was.published) taken written (run_of new published')) was.limits step.step in
-      let next =
-      next_rows Holds (limits_in options) options.readers (run_of old was.published) was.rows was.are_rows taken written (run_of new published') one in
-      record {
-        rows = next.0;
-        published = published';
-        written = was.written ++ written;
-        runs = goes_on was.runs one refl refl;
-        same =
-            IsPermutation-trans (entries_of next.0) (entries_of was.rows ++ written) (was.written ++ written)
-            (next_entries was.rows taken written next.0 next.1)
-            (IsPermutation-append_left written (entries_of was.rows) was.written was.same);
-        taken = next_items was.rows taken written next.0 next.1 ∙ ap (λ l. l ++ taken) was.taken;
-        are_rows = next.2;
-        fits = step.fits;
-        limits = step.limits ∙ was.limits;
-        are_collected = collects next.0 next.1 next.2.searches;
-        failures =
-            subst (λ n. IsCounted n first failed') (sym (next_failures was.rows next.0 taken written next.1))
-            (counted_more (count_failures was.rows) (failures_of written) first failed failed' was.failures counts);
-      }
+module _ {W O : Type 0} (Does : W → O → News → W → O → Type 0) (Holds : List ℕ → List ℕ → Type 0) (readers : ℕ) (start : Start W O)
+    (items : List Numbered) (at : Now W O) (was : IsRunning Does Holds readers start items at) where
+  module _ (taken : List Numbered) (written : List Entry) (new : ServiceState) (published' : List ℕ)
+      (step : Steps Holds readers at.service was.published taken written new published') (failed' : ℕ) (counts : IsCounted (failures_of written) at.failed failed') where
+    one_step : IsStep Holds start.limits readers (run_of at.service was.published) taken written (run_of new published')
+    one_step =
+        subst (λ limits. IsStep Holds limits readers (run_of at.service was.published) taken written (run_of new published')) was.limits step.step
 
-  -- an open search gets its entry
-  gives_on : (entry : Entry) (new : ServiceState) (collected' : CollectedState) → Gives old entry new
-      → (0 < number_in entry → collected' ≡ filled entry collected) → IsRunning Holds options first items new collected' failed
-  gives_on entry new collected' gives fills =
-      subst (λ l. IsRunning Holds options first l new collected' failed) (append-nil items)
-      (steps_on [] (entry ∷ []) new was.published collected' failed (gives_step Holds old was.published options.readers was.fits entry new gives)
-      (λ rows' next searches. collects rows' next)
-      (subst (λ n. IsCounted n failed failed) (sym (gives_no_failure old entry new gives)) (none_failed failed)))
-    where
-      collects : (rows' : List Row) → AreNext was.rows [] (entry ∷ []) rows' → IsCollected rows' collected'
-      collects rows' (rows_of.more row own takes writes same) = cc
-      collects rows' (rows_of.both before row after entry' more whole empty one its takes writes no_entry no_search same) = cc
-      collects rows' (rows_of.filled before row after entry' whole empty one its takes writes same) =
-          let is : entry ≡ entry' = cc in
-          let number : number_in entry ≡ count_searches before + 1 = ap number_in is ∙ number_of_search _ entry' its in
-          subst (λ r. IsCollected r collected') (sym same)
-          (subst (λ c. IsCollected (before ++ with_its_entry entry' row ∷ after) c) (ap (λ e. filled e collected) (sym is) ∙ sym (fills (omega arith)))
-          (collected_filled before row after entry' empty one its collected (subst (λ r. IsCollected r collected) whole was.are_collected)))
+    steps_on : (sink' : W) (out' : O)
+        → ((rows' : List Row) → AreNext was.rows taken written rows' → new.searches ≡ count_searches rows'
+        → Told Does start.sink start.out rows' (was.written ++ written) sink' out')
+        → IsRunning Does Holds readers start (items ++ taken) (now new failed' sink' out')
+    steps_on sink' out' tells =
+        let next = next_rows Holds start.limits readers (run_of at.service was.published) was.rows was.are_rows taken written (run_of new published') one_step in
+        record {
+          rows = next.0;
+          published = published';
+          written = was.written ++ written;
+          runs = goes_on was.runs one_step refl refl;
+          same =
+              IsPermutation-trans (entries_of next.0) (entries_of was.rows ++ written) (was.written ++ written)
+              (next_entries was.rows taken written next.0 next.1)
+              (IsPermutation-append_left written (entries_of was.rows) was.written was.same);
+          taken = next_items was.rows taken written next.0 next.1 ∙ ap (λ l. l ++ taken) was.taken;
+          are_rows = next.2;
+          fits = step.fits;
+          limits = step.limits ∙ was.limits;
+          told = tells next.0 next.1 next.2.searches;
+          failures = counted_written was.written written start.failed at.failed failed' was.failures counts;
+        }
 
--- Open searches that got their entries.
-
-pub filled_more : {old mid : ServiceState} {collected between : CollectedState} {new : ServiceState} {collected' : CollectedState} → AreFilled old collected mid between
-    → AreFilled mid between new collected' → AreFilled old collected new collected'
-filled_more first none = first
-filled_more first (one_more so_far entry gives fills) = one_more (filled_more first so_far) entry gives fills
-
-filled_on : (Holds : List ℕ → List ℕ → Type 0) (options : Options) (first : ℕ) (items : List Numbered) (old : ServiceState)
-    (collected : CollectedState) (failed : ℕ) (new : ServiceState) (collected' : CollectedState)
-    → IsRunning Holds options first items old collected failed → AreFilled old collected new collected'
-    → IsRunning Holds options first items new collected' failed
-filled_on Holds options first items old collected failed _ _ was none = was
-filled_on Holds options first items old collected failed new collected' was (one_more {service = mid} {collected' = between} so_far entry gives fills) =
-    gives_on Holds options first items mid between failed (filled_on Holds options first items old collected failed mid between was so_far) entry new
-    collected' gives fills
-
--- An item is taken.
-module _ (Holds : List ℕ → List ℕ → Type 0) (options : Options) (item : Numbered) (old : ServiceState) (collected : CollectedState) (failed : ℕ)
-    (settled : (old.awaited ≡ []) ⊎ ((0 < options.readers) × (is_sync item.item ≡ false))) (new : ServiceState) (failed' : ℕ) where
-  may : (published : List ℕ) → (old.awaited ≡ []) ⊎ ((0 < options.readers) × (is_sync item.item ≡ false))
-      → MayTake options.readers (run_of old published) item.item
-  may published (inl empty) = steps.settled empty
-  may published (inr some) = steps.beside some.0 some.1
-
-  module _ (first : ℕ) (items : List Numbered) (was : IsRunning Holds options first items old collected failed) where
-    step_of : (written : List Entry) → Takes Holds old item written new
-        → Steps Holds options.readers old was.published (item ∷ []) written new (was.published ++ versions_in written)
-    step_of written takes = takes was.published options.readers was.fits (may was.published settled)
-
-    -- What the new row, and an open search that gets its entry beside it, leave collected.
-    takes_on : (written : List Entry) (collected' : CollectedState) → Takes Holds old item written new
-        → ((row : Row) → HasOwnEntry row → item ≡ row.numbered → written ≡ list_of row.entry
-        → new.searches ≡ count_searches was.rows + searches_of row.numbered.item → IsCollected (was.rows ++ row ∷ []) collected')
-        → ((before : List Row) (row : Row) (after : List Row) (entry : Entry) (more : Row) → was.rows ≡ before ++ row ∷ after → row.entry ≡ None
-        → searches_of row.numbered.item ≡ 1 → IsOfSearch (count_searches before + 1) entry → item ≡ more.numbered → written ≡ entry ∷ []
-        → more.entry ≡ None → searches_of more.numbered.item ≡ 0
-        → IsCollected (before ++ with_its_entry entry row ∷ (after ++ more ∷ [])) collected')
-        → IsCounted (failures_of written) failed failed' → IsRunning Holds options first (items ++ item ∷ []) new collected' failed'
-    takes_on written collected' takes collects both counts =
-        steps_on Holds options first items old collected failed was (item ∷ []) written new (was.published ++ versions_in written) collected' failed'
-        (step_of written takes) by counts
-      where
-        by : (rows' : List Row) → AreNext was.rows (item ∷ []) written rows' → new.searches ≡ count_searches rows' → IsCollected rows' collected'
-        by rows' (rows_of.more row own takes writes same) searches =
-            subst (λ r. IsCollected r collected') (sym same)
-            (collects row own (cc) writes (searches ∙ ap count_searches same ∙ count_searches-push was.rows row))
-        by rows' (rows_of.filled before row after entry' whole empty one its takes writes same) searches = cc
-        by rows' (rows_of.both before row after entry' more whole empty one its takes writes no_entry no_search same) searches =
-            subst (λ r. IsCollected r collected') (sym same)
-            (both before row after entry' more whole empty one its (cc) writes no_entry no_search)
-
-  -- it has its entry
-  pub entry_taken : (entry : Entry) (collected' : CollectedState) → searches_in entry ≡ searches_of item.item → Takes Holds old item (entry ∷ []) new
-      → IsCounted (failures_in (Some entry)) failed failed' → collected' ≡ pushed entry collected
-      → TakesOne Holds options item old collected failed new collected' failed'
-  entry_taken entry collected' own takes counts pushes first items was =
-      takes_on first items was (entry ∷ []) collected' takes
-      (λ row has_own is writes searches.
-      subst (IsCollected (was.rows ++ row ∷ [])) (sym pushes)
-      (collected_more was.rows row collected entry was.are_collected
-      (ap (λ e. slot_by e (searches_of row.numbered.item) (count_searches was.rows + 1)) (one_of_one row.entry entry writes))
-      (λ at. place_of_entry at entry ∙ ap (place_by at) (own ∙ ap (λ i. searches_of i.item) is))))
-      (λ before row after entry' more whole empty one its is writes no_entry no_search.
-      let same : entry ≡ entry' = cc in
-      absurd (omega (arith, ap searches_in same ∙ one_of_search _ entry' its, own ∙ ap (λ i. searches_of i.item) is, no_search)))
-      (let same : failures_in (Some entry) ≡ failures_of (entry ∷ []) = omega arith in subst (λ n. IsCounted n failed failed') same counts)
-
-  -- it is a search, which is open
-  pub search_taken : searches_of item.item ≡ 1 → (number : ℕ) → number ≡ new.searches → (collected' : CollectedState) → Takes Holds old item [] new
-      → IsCounted 0 failed failed' → collected' ≡ pushed (SearchRefused number OutOfMemory) collected
-      → TakesOne Holds options item old collected failed new collected' failed'
-  search_taken one number is_number collected' takes counts pushes first items was =
-      takes_on first items was [] collected' takes
-      (λ row own is writes searches.
-      let is_one : searches_of row.numbered.item ≡ 1 = ap (λ i. searches_of i.item) (sym is) ∙ one in
-      let counted : number ≡ count_searches was.rows + 1 = omega arith in
-      subst (IsCollected (was.rows ++ row ∷ [])) (sym pushes)
-      (collected_more was.rows row collected (SearchRefused number OutOfMemory) was.are_collected
-      (ap (λ e. slot_by e (searches_of row.numbered.item) (count_searches was.rows + 1)) (none_of_none row.entry writes)
-      ∙ ap (λ n. slot_by None n (count_searches was.rows + 1)) is_one ∙ ap (λ n. SearchRefused n OutOfMemory ∷ []) (sym counted))
-      (λ at. sym (ap (place_by at) is_one))))
-      (λ before row after entry more whole empty its_one its is writes no_entry no_search. cc)
-      counts
-
-  -- it is a cancel, at which an open search has its entry
-  pub cancel_taken : (entry : Entry) (collected' : CollectedState) → (searches_of item.item ≡ 0) × (searches_in entry ≡ 1)
-      → Takes Holds old item (entry ∷ []) new → IsCounted (failures_in (Some entry)) failed failed'
-      → (0 < number_in entry → collected' ≡ filled entry collected) → TakesOne Holds options item old collected failed new collected' failed'
-  cancel_taken entry collected' kind takes counts fills first items was =
-      takes_on first items was (entry ∷ []) collected' takes
-      (λ row own is writes searches.
-      absurd (omega (arith, kind.0, kind.1, own entry (one_of_one row.entry entry writes), ap (λ i. searches_of i.item) is)))
-      (λ before row after entry' more whole empty one its is writes no_entry no_search.
-      let same : entry ≡ entry' = cc in
-      let number : number_in entry ≡ count_searches before + 1 = ap number_in same ∙ number_of_search _ entry' its in
-      let longer : was.rows ++ more ∷ [] ≡ before ++ row ∷ (after ++ more ∷ []) =
-      ap (λ l. l ++ more ∷ []) whole ∙ append_assoc before (row ∷ after) (more ∷ []) in
-      subst (λ c. IsCollected (before ++ with_its_entry entry' row ∷ (after ++ more ∷ [])) c)
-      (ap (λ e. filled e collected) (sym same) ∙ sym (fills (omega arith)))
-      (collected_filled before row (after ++ more ∷ []) entry' empty one its collected
-      (subst (λ r. IsCollected r collected) longer (collected_same was.rows more collected was.are_collected no_entry no_search))))
-      (let same : failures_in (Some entry) ≡ failures_of (entry ∷ []) = omega arith in subst (λ n. IsCounted n failed failed') same counts)
-
-  -- it has no entry
-  pub nothing_taken : searches_of item.item ≡ 0 → Takes Holds old item [] new → IsCounted 0 failed failed'
-      → TakesOne Holds options item old collected failed new collected failed'
-  nothing_taken no_search takes counts first items was =
-      takes_on first items was [] collected takes
-      (λ row own is writes searches.
-      collected_same was.rows row collected was.are_collected (none_of_none row.entry writes) (ap (λ i. searches_of i.item) (sym is) ∙ no_search))
-      (λ before row after entry more whole empty one its is writes no_entry no_search. cc)
-      counts
-
--- What open searches got before an item was taken, and afterwards, is part of its step.
-pub takes_beside : (Holds : List ℕ → List ℕ → Type 0) (options : Options) (item : Numbered) (old : ServiceState) (collected : CollectedState)
-    (before : ServiceState) (collected' : CollectedState) (failed : ℕ) (after : ServiceState) (collected'' : CollectedState) (new : ServiceState)
-    (collected''' : CollectedState) (failed' : ℕ) → AreFilled old collected before collected'
-    → TakesOne Holds options item before collected' failed after collected'' failed' → AreFilled after collected'' new collected'''
-    → TakesOne Holds options item old collected failed new collected''' failed'
-takes_beside Holds options item old collected before collected' failed after collected'' new collected''' failed' filled_before takes filled_after first items was =
-    filled_on Holds options first (items ++ item ∷ []) after collected'' failed' new collected'''
-    (takes first items (filled_on Holds options first items old collected failed before collected' was filled_before)) filled_after
-
--- A run from its beginning on: the items that were taken, and those of what is left, are the script's.
-pub record IsRun (Holds : List ℕ → List ℕ → Type 0) (options : Options) (script : List ℕ) (first : ℕ) (left : Position) (service : ServiceState)
-    (collected : CollectedState) (failed : ℕ) : Type 0 where
-  pub items : List Numbered
-  pub reads : (more : List Numbered) → ItemsFrom left.line left.rest more → IsItemsOf script (items ++ more)
-  pub running : IsRunning Holds options first items service collected failed
-
-first_version : (version : ℕ) → Contains (0 ∷ []) version → (version ≡ 0) ⊎ Contains [] version
-first_version version (zero, within, is) = inl (sym is)
-first_version version (suc k, within, is) = absurd (omega arith)
-
-first_is_first : (options : Options) → IsFirst options.readers (first_run options)
-first_is_first options = record {
-  accepted = refl;
-  published = refl;
-  searches = refl;
-  awaited = refl;
-  count = length-replicate (options.readers + 1) (last 0 0);
-  lasts = All-replicate (λ l. l ≡ last 0 0) (options.readers + 1) (last 0 0) refl;
-}
-
-no_failures : (failed : ℕ) → IsCounted (count_failures []) failed failed
-unfolding count_failures
-no_failures failed = none_failed failed
-
-pub run_begins : (Holds : List ℕ → List ℕ → Type 0) (options : Options) (script : List ℕ) (failed : ℕ) (collected : CollectedState)
-    → collected.entries ≡ [] → collected.places ≡ []
-    → IsRun Holds options script failed (position 1 script) (first_service (limits_in options) options.readers) collected failed
-run_begins Holds options script failed collected no_entries no_places = record {
-  items = [];
-  reads = λ more are. are;
-  running = record {
-    rows = [];
-    published = [];
-    written = [];
-    runs = begins;
-    same = IsPermutation-refl [];
-    taken = refl;
-    are_rows = first_rows Holds (limits_in options) options.readers (first_run options) (first_is_first options);
-    fits = record { latest = refl; kept = first_version };
-    limits = refl;
-    are_collected = record { entries = no_entries; places = no_places };
-    failures = no_failures failed;
-  };
-}
-
-running_mapped : (H H' : List ℕ → List ℕ → Type 0) → ((path body : List ℕ) → H path body → H' path body) → (options : Options) (first : ℕ)
-    (items : List Numbered) (service : ServiceState) (collected : CollectedState) (failed : ℕ)
-    → IsRunning H options first items service collected failed → IsRunning H' options first items service collected failed
-running_mapped H H' holds options first items service collected failed was = record {
-  rows = was.rows;
-  published = was.published;
-  written = was.written;
-  runs = runs_mapped H H' holds (limits_in options) options.readers (first_run options) was.runs;
-  same = was.same;
-  taken = was.taken;
-  are_rows = rows_mapped H H' holds (limits_in options) options.readers (run_of service was.published) was.rows was.are_rows;
-  fits = was.fits;
-  limits = was.limits;
-  are_collected = was.are_collected;
-  failures = was.failures;
-}
-
-pub run_goes_on : (H H' : List ℕ → List ℕ → Type 0) → ((path body : List ℕ) → (H' path body → H path body) × (H path body → H' path body))
-    → (options : Options) (script : List ℕ) (first : ℕ) (left : Position) (old : ServiceState) (collected : CollectedState) (failed : ℕ)
-    (item : Numbered) (left' : Position) (new : ServiceState) (collected' : CollectedState) (failed' : ℕ)
-    → IsRun H options script first left old collected failed → reading.Takes left item left'
-    → TakesOne H' options item old collected failed new collected' failed' → IsRun H options script first left' new collected' failed'
-run_goes_on H H' same options script first left old collected failed item left' new collected' failed' run reads takes = record {
-  items = run.items ++ item ∷ [];
-  reads = λ more are.
-      subst (IsItemsOf script) (sym (append_assoc run.items (item ∷ []) more)) (run.reads (item ∷ more) (reads.whole more are));
-  running =
-      running_mapped H' H (λ path body. (same path body).0) options first (run.items ++ item ∷ []) new collected' failed'
-      (takes first run.items
-      (running_mapped H H' (λ path body. (same path body).1) options first run.items old collected failed run.running));
-}
-
--- Rows of which no search is open are all answered.
-
-no_search : (count least : ℕ) (item : Item) → open_of count least item None ≡ [] → searches_of item ≡ 0
-no_search count least (search case text) empty = cc
-no_search count least (search_in case name_text text) empty = cc
-no_search count least (find text) empty = cc
-no_search count least item empty = refl
-
-both_empty : {X : Type 0} (xs ys : List X) → xs ++ ys ≡ [] → (xs ≡ []) × (ys ≡ [])
-both_empty [] ys empty = (refl, empty)
-both_empty (x ∷ xs) ys empty = cc
-
-are_answered : (count least : ℕ) (rows : List Row) → open_in count least rows ≡ [] → AreAnswered rows
-are_answered count least [] empty = tt
-are_answered count least (row ∷ rows) empty =
-    let both = both_empty (open_of count least row.numbered.item row.entry) _ empty in (
-      λ no_entry. no_search count least row.numbered.item (ap (open_of count least row.numbered.item) (sym no_entry) ∙ both.0),
-      are_answered (count + searches_of row.numbered.item) (last_or least (version_in row.entry)) rows both.1,
-    )
-
--- At the script's end, once no search is open, a run is legal.
-pub run_is_legal : (Holds : List ℕ → List ℕ → Type 0) (options : Options) (script : List ℕ) (first : ℕ) (left : Position) (old : ServiceState)
-    (collected : CollectedState) (failed : ℕ) (new : ServiceState) (collected' : CollectedState)
-    → IsRun Holds options script first left old collected failed → ItemsFrom left.line left.rest [] → AreFilled old collected new collected'
-    → length new.awaited ≤ 0 → IsLegal script options Holds first failed collected'.entries
-run_is_legal Holds options script first left old collected failed new collected' run ended fills few =
-    let is = filled_on Holds options first run.items old collected failed new collected' run.running fills in
-    let empty : new.awaited ≡ [] = none_open new.awaited few in
-    let whole : collected'.entries ≡ entries_of is.rows =
-    is.are_collected.entries ∙ slots_at_end 0 is.rows (are_answered 0 0 is.rows (sym is.are_rows.awaited ∙ empty)) in
-    record {
-      rows = is.rows;
-      items = subst (IsItemsOf script) (append-nil run.items ∙ sym is.taken) (run.reads [] ended);
-      whole = whole;
-      each = each_is_legal Holds (limits_in options) options.readers (run_of new is.published) is.rows is.are_rows empty;
-      turns = are_in_turn Holds (limits_in options) options.readers (run_of new is.published) is.rows is.are_rows;
-      failures = is.failures.rises;
-      begin = first_run options;
-      end = run_of new is.published;
-      written = is.written;
-      first = first_is_first options;
-      runs =
-          subst (λ (items : List Numbered). Runs Holds (limits_in options) options.readers (first_run options) items is.written (run_of new is.published))
-          (sym is.taken) is.runs;
-      settled = empty;
-      same = subst (λ (entries : List Entry). IsPermutation entries is.written) (sym whole) is.same;
+    -- the sink fails at what the step brings
+    stops_on : (brings : News) → entries_by brings ≡ written → (Fails : W → O → News → W → O → Type 0) (sink' : W) (out' : O)
+        → Fails at.sink at.out brings sink' out' → IsStopped Does Fails Holds readers start (items ++ taken) failed' sink' out'
+    stops_on brings is Fails sink' out' fails = record {
+      written = was.written ++ written;
+      end = run_of new published';
+      runs = goes_on was.runs one_step refl refl;
+      told = running.in_part was.told brings fails (ap (λ l. was.written ++ l) (sym is));
+      failures = counted_written was.written written start.failed at.failed failed' was.failures counts;
     }
-  where
-    none_open : {X : Type 0} (xs : List X) → length xs ≤ 0 → xs ≡ []
-    none_open [] few = refl
-    none_open (x ∷ xs) few = absurd (omega arith)
+
+  -- It stops as it is.
+  pub stops_here : (Fails : W → O → News → W → O → Type 0) → IsStopped Does Fails Holds readers start items at.failed at.sink at.out
+  stops_here Fails = record {
+    written = was.written;
+    end = run_of at.service was.published;
+    runs = was.runs;
+    told = running.whole was.told;
+    failures = was.failures;
+  }
+
+  -- An open search gets its entry.
+  module _ (entry : Entry) (new : ServiceState) (gives : Gives at.service entry new) where
+    given : Steps Holds readers at.service was.published [] (entry ∷ []) new was.published
+    given = gives_step Holds at.service was.published readers was.fits entry new gives
+
+    unfailed : IsCounted (failures_of (entry ∷ [])) at.failed at.failed
+    unfailed = subst (λ n. IsCounted n at.failed at.failed) (sym (gives_no_failure at.service entry new gives)) (none_failed at.failed)
+
+    gives_on : (sink' : W) (out' : O) → Does at.sink at.out (news.Answer entry) sink' out'
+        → IsRunning Does Holds readers start items (now new at.failed sink' out')
+    gives_on sink' out' does =
+        subst (λ l. IsRunning Does Holds readers start l (now new at.failed sink' out')) (append-nil items)
+        (steps_on [] (entry ∷ []) new was.published given at.failed unfailed sink' out' tells)
+      where
+        tells : (rows' : List Row) → AreNext was.rows [] (entry ∷ []) rows' → new.searches ≡ count_searches rows'
+            → Told Does start.sink start.out rows' (was.written ++ entry ∷ []) sink' out'
+        tells rows' (rows_of.more row own takes writes same) searches = cc
+        tells rows' (rows_of.both before row after entry' more whole empty one its takes writes no_entry no_search same) searches = cc
+        tells rows' (rows_of.filled before row after entry' whole empty one its takes writes same) searches =
+            let is : entry ≡ entry' = cc in
+            answered was.told before row after entry' whole empty one its (subst (λ e. Does at.sink at.out (news.Answer e) sink' out') is does) same
+            (ap (λ e. was.written ++ e ∷ []) is)
+
+    gives_front : (Fails : W → O → News → W → O → Type 0) (sink' : W) (out' : O) → Fails at.sink at.out (news.Answer entry) sink' out'
+        → IsStopped Does Fails Holds readers start items at.failed sink' out'
+    gives_front Fails sink' out' fails =
+        subst (λ l. IsStopped Does Fails Holds readers start l at.failed sink' out') (append-nil items)
+        (stops_on [] (entry ∷ []) new was.published given at.failed unfailed (news.Answer entry) refl Fails sink' out' fails)
+
+  pub answers_on : (new : ServiceState) (sink' : W) (out' : O) → Answers Does at.service at.sink at.out new sink' out'
+      → IsRunning Does Holds readers start items (now new at.failed sink' out')
+  answers_on new sink' out' (running.nothing same_service same_sink same_out) = rw (same_service, same_sink, same_out) was
+  answers_on new sink' out' (running.one entry gives does) = gives_on entry new gives sink' out' does
+
+  pub answers_front : (Fails : W → O → News → W → O → Type 0) (new : ServiceState) (sink' : W) (out' : O)
+      → AnswersFront Fails at.service at.sink at.out new sink' out' → IsStopped Does Fails Holds readers start items at.failed sink' out'
+  answers_front Fails new sink' out' front = gives_front front.entry new front.gives Fails sink' out' front.fails
+
+  -- An item is taken.
+  module _ (line : ℕ) (o : OwnedItem) (shown : Item) (shows : ShowsOwned o shown) (may : MayTakeNow readers at.service o) (new : ServiceState)
+      (failed' : ℕ) where
+    abbrev item : Numbered
+    item = numbered line shown
+
+    step_of : (written : List Entry) → Takes Holds at.service item written new
+        → Steps Holds readers at.service was.published (item ∷ []) written new (was.published ++ versions_in written)
+    step_of written takes = takes was.published readers was.fits (may_take readers at.service was.published o shown shows may)
+
+    -- it has its entry
+    module _ (entry : Entry) (takes : Takes Holds at.service item (entry ∷ []) new) (counts : IsCounted (failures_in (Some entry)) at.failed failed') where
+      pub entry_taken : (sink' : W) (out' : O) → searches_in entry ≡ searches_of shown → Does at.sink at.out (news.Entry entry) sink' out'
+          → IsRunning Does Holds readers start (items ++ item ∷ []) (now new failed' sink' out')
+      entry_taken sink' out' own does =
+          steps_on (item ∷ []) (entry ∷ []) new (was.published ++ versions_in (entry ∷ [])) (step_of (entry ∷ []) takes) failed'
+          (counted_one entry at.failed failed' counts) sink' out' tells
+        where
+          tells : (rows' : List Row) → AreNext was.rows (item ∷ []) (entry ∷ []) rows' → new.searches ≡ count_searches rows'
+              → Told Does start.sink start.out rows' (was.written ++ entry ∷ []) sink' out'
+          tells rows' (rows_of.more row has_own takes writes same) searches =
+              let is = one_of_one row.entry entry writes in entered was.told row entry is (has_own entry is) does same refl
+          tells rows' (rows_of.filled before row after entry' whole empty one its takes writes same) searches = cc
+          tells rows' (rows_of.both before row after entry' more whole empty one its takes writes no_entry no_search same) searches =
+              let is : entry ≡ entry' = cc in
+              let own_item : item ≡ more.numbered = cc in
+              absurd (omega (arith, ap searches_in is ∙ one_of_search _ entry' its, own ∙ ap (λ i. searches_of i.item) own_item, no_search))
+
+      -- it is a cancel, at which an open search has its entry
+      pub cancel_taken : (sink' : W) (out' : O) → (searches_of shown ≡ 0) × (searches_in entry ≡ 1) → Does at.sink at.out (news.Answer entry) sink' out'
+          → IsRunning Does Holds readers start (items ++ item ∷ []) (now new failed' sink' out')
+      cancel_taken sink' out' kind does =
+          steps_on (item ∷ []) (entry ∷ []) new (was.published ++ versions_in (entry ∷ [])) (step_of (entry ∷ []) takes) failed'
+          (counted_one entry at.failed failed' counts) sink' out' tells
+        where
+          tells : (rows' : List Row) → AreNext was.rows (item ∷ []) (entry ∷ []) rows' → new.searches ≡ count_searches rows'
+              → Told Does start.sink start.out rows' (was.written ++ entry ∷ []) sink' out'
+          tells rows' (rows_of.more row own takes writes same) searches =
+              let own_item : item ≡ row.numbered = cc in
+              absurd (omega (arith, kind.0, kind.1, own entry (one_of_one row.entry entry writes), ap (λ i. searches_of i.item) own_item))
+          tells rows' (rows_of.filled before row after entry' whole empty one its takes writes same) searches = cc
+          tells rows' (rows_of.both before row after entry' more whole empty one its takes writes no_entry no_search same) searches =
+              let is : entry ≡ entry' = cc in
+              answered (passed was.told more no_entry no_search refl) before row (after ++ more ∷ []) entry'
+              (ap (λ l. l ++ more ∷ []) whole ∙ append_assoc before (row ∷ after) (more ∷ [])) empty one its
+              (subst (λ e. Does at.sink at.out (news.Answer e) sink' out') is does) same (ap (λ e. was.written ++ e ∷ []) is)
+
+      -- the sink fails at the entry
+      pub front_taken : (brings : News) → entries_by brings ≡ entry ∷ [] → (Fails : W → O → News → W → O → Type 0) (sink' : W) (out' : O)
+          → Fails at.sink at.out brings sink' out' → IsStopped Does Fails Holds readers start (items ++ item ∷ []) failed' sink' out'
+      front_taken brings is Fails sink' out' fails =
+          stops_on (item ∷ []) (entry ∷ []) new (was.published ++ versions_in (entry ∷ [])) (step_of (entry ∷ []) takes) failed'
+          (counted_one entry at.failed failed' counts) brings is Fails sink' out' fails
+
+    -- it has no entry yet, or has none
+    module _ (takes : Takes Holds at.service item [] new) (counts : IsCounted 0 at.failed failed') where
+      -- it is a search, which is open
+      pub search_taken : (number : ℕ) → number ≡ new.searches → searches_of shown ≡ 1 → (sink' : W) (out' : O)
+          → Does at.sink at.out (news.Open number) sink' out'
+          → IsRunning Does Holds readers start (items ++ item ∷ []) (now new failed' sink' out')
+      search_taken number is_number one sink' out' does =
+          steps_on (item ∷ []) [] new (was.published ++ versions_in []) (step_of [] takes) failed' counts sink' out' tells
+        where
+          tells : (rows' : List Row) → AreNext was.rows (item ∷ []) [] rows' → new.searches ≡ count_searches rows'
+              → Told Does start.sink start.out rows' (was.written ++ []) sink' out'
+          tells rows' (rows_of.more row own takes writes same) searches =
+              let own_item : item ≡ row.numbered = cc in
+              let is_one : searches_of row.numbered.item ≡ 1 = ap (λ i. searches_of i.item) (sym own_item) ∙ one in
+              let counted : number ≡ count_searches was.rows + 1 =
+              is_number ∙ searches ∙ ap count_searches same ∙ count_searches-push was.rows row ∙ ap (λ n. count_searches was.rows + n) is_one in
+              subst (λ l. Told Does start.sink start.out rows' l sink' out') (sym (append-nil was.written))
+              (opened was.told row (none_of_none row.entry writes) is_one (subst (λ n. Does at.sink at.out (news.Open n) sink' out') counted does) same)
+          tells rows' (rows_of.filled before row after entry' whole empty one its takes writes same) searches = cc
+          tells rows' (rows_of.both before row after entry' more whole empty one its takes writes no_entry no_search same) searches = cc
+
+      -- it has none
+      pub nothing_taken : searches_of shown ≡ 0 → IsRunning Does Holds readers start (items ++ item ∷ []) (now new failed' at.sink at.out)
+      nothing_taken none =
+          steps_on (item ∷ []) [] new (was.published ++ versions_in []) (step_of [] takes) failed' counts at.sink at.out tells
+        where
+          tells : (rows' : List Row) → AreNext was.rows (item ∷ []) [] rows' → new.searches ≡ count_searches rows'
+              → Told Does start.sink start.out rows' (was.written ++ []) at.sink at.out
+          tells rows' (rows_of.more row own takes writes same) searches =
+              let own_item : item ≡ row.numbered = cc in
+              subst (λ l. Told Does start.sink start.out rows' l at.sink at.out) (sym (append-nil was.written))
+              (passed was.told row (none_of_none row.entry writes) (ap (λ i. searches_of i.item) (sym own_item) ∙ none) same)
+          tells rows' (rows_of.filled before row after entry' whole empty one its takes writes same) searches = cc
+          tells rows' (rows_of.both before row after entry' more whole empty one its takes writes no_entry no_search same) searches = cc
+
+      -- the sink fails at the search
+      pub open_front : (number : ℕ) (Fails : W → O → News → W → O → Type 0) (sink' : W) (out' : O) → Fails at.sink at.out (news.Open number) sink' out'
+          → IsStopped Does Fails Holds readers start (items ++ item ∷ []) failed' sink' out'
+      open_front number Fails sink' out' fails =
+          stops_on (item ∷ []) [] new (was.published ++ versions_in []) (step_of [] takes) failed' counts (news.Open number) refl Fails sink' out' fails

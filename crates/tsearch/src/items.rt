@@ -1,197 +1,273 @@
-//! The items of a run, from the first to the last.
+//! One event after the other.
 
-ghost use Rattle.std.specs.Prelude.{◌≡◌, ℕ, ◌+◌, ◌^◌, ◌<◌, ◌≤◌, ◌⊎◌, List, [], ◌∷◌, false, IfOk, OnOk, length};
-ghost use Rattle.script.specs.Items.{Numbered as NumberedItem, numbered as numbered_item};
-ghost use Rattle.script.specs.Reading.{shown_item};
+ghost use Rattle.std.specs.Prelude.{◌≡◌, ◌≢◌, ℕ, ◌+◌, ◌<◌, ◌≤◌, ◌^◌, ◌⊎◌, true, List, [], ◌∷◌, ◌++◌, None, IfOk, OnOk, OnErr};
+ghost use Rattle.input.specs.Read.{EndsBy, IsReadOf, inbox_state};
 ghost use Rattle.service.specs.Service.{first_service};
-ghost use Rattle.steps.specs.Rows.{is_sync};
-ghost use Rattle.tsearch.specs.Legal.{IsLegal, limits_in};
-ghost use Rattle.tsearch.specs.Private.Running.{TakesOne, AreFilled};
+ghost use Rattle.tsearch.specs.Private.Running.{Start, start_at, now, Answers, AnswersFront, TakesOne, FailsAtOne};
+ghost use Rattle.tsearch.specs.Private.Serving.{IsServing, IsCutOff, IsDone, IsAdvanced, MayTakeNow, TakesEvent, FailsAtEvent};
 
-use crate::crew::Crew;
-use crate::run::Options;
-use script::{Item, MAX_SCRIPT, Numbered, ScriptReader};
-use service::{Collected, Done, Gate, Naming, Service, Source, Taken, Task};
-use std::alloc::{AllocError, Global};
-use std::marker::PhantomData;
+use crate::crew::{Crew, Event};
+use crate::error::{LiveError, of_inbox, of_reading};
+use crate::sink::{News, Sink};
+use input::{Inbox, ReadItem};
+use service::{Done, Service, Source, Taken, Task};
+use std::alloc::Global;
+use std::io::BufRead;
 use std::sync::Wait;
+use std::thread::Threads;
 use std::time::Clock;
-use transcript::{Entry, SearchReason};
 
-/// How many searches are open at most. Before one more item is taken, the run waits for an answer.
+/// How many searches are open at most. No further item is taken until one of them is answered.
 const MAX_OPEN: usize = 1024;
 
-/// What a run is given, and what it lends to its readers.
+/// What a run or a session needs throughout.
 #[derive(Drop)]
-pub struct Plan<'a, J, R, G> {
+pub(crate) struct Plan<'a, R> {
     /// The runtime.
-    pub rt: &'a R,
+    pub(crate) rt: &'a R,
     /// The allocator.
-    pub alloc: Global,
-    /// The script.
-    pub script: &'a [u8],
-    /// How the script is run.
-    pub options: Options,
-    /// What the readers call at each point of a search.
-    pub gate: &'a G,
-    /// It shows how long J lives.
-    pub of: &'a PhantomData<J>,
+    pub(crate) alloc: Global,
+    /// How many readers there are in addition to reader 0.
+    pub(crate) readers: u32,
 }
 
-/// Carries out the items of the script, and waits for all answers. Returns the entries, in the order of the items.
+/// Carries out the items of the input, from the first to the last, and waits for all answers. The sink takes the entries.
 ///
-/// An `Err` means that memory ran out for the run itself.
-pub fn carry_out_all<J: Naming, R: Wait + Clock, S: Source, G: Gate>(
-    plan: &Plan<'_, J, R, G>,
-    crew: &Crew<J>,
+/// An `Err` is the error that ended the reading, after all that was read before it; or the sink's; or it is
+/// `TooManySearches`, `OutOfMemory` if there is no room for an item that was read, or `CannotRead` if an event did not come,
+/// which never happens.
+pub(crate) fn carry_out_all<
+    J: service::Naming,
+    K: input::Naming,
+    R: Threads + Wait + Clock + Sync,
+    S: Source,
+    I: BufRead + Drop,
+    T: Sink<O>,
+    O,
+>(
+    plan: &Plan<'_, R>,
     service: &mut Service<J>,
+    crew: &mut Crew<J, K, I>,
+    inbox: &mut Inbox<K>,
+    sink: &mut T,
     source: &mut S,
-) -> Result<Vec<Entry>, AllocError>
-    requires script { length plan.now.script.now ≤ MAX_SCRIPT }
-    requires first { service.old ≡ first_service (limits_in plan.now.options) plan.now.options.readers }
-    ensures legal { IfOk result (λ entries. IsLegal plan.now.script.now plan.now.options (S.holds source.old)
-        (S.failed source.old) (S.failed source.new) entries.items) }
+    out: &mut O,
+) -> Result<(), LiveError>
+    requires first { service.old ≡ first_service service.old.limits plan.now.readers }
+    requires inbox { inbox.old ≡ inbox_state [] [] None }
+    requires read { IsReadOf K.input inbox.old.came }
+    ensures ok { OnOk result (IsDone T.does (S.holds source.old) plan.now.readers K.input
+        (start_at service.old.limits (S.failed source.old) sink.old out.old) (now service.new (S.failed source.new) sink.new out.new)) }
+    ensures err { OnErr result (IsCutOff T.does T.fails (S.holds source.old) plan.now.readers K.input
+        (start_at service.old.limits (S.failed source.old) sink.old out.old) (S.failed source.new) sink.new out.new) }
     ensures same { (path body : List ℕ) → (S.holds source.new path body → S.holds source.old path body)
         × (S.holds source.old path body → S.holds source.new path body) }
     ensures counted { S.failed source.old ≤ S.failed source.new }
-{
-    let mut collected = Collected::new(plan.alloc);
-    let mut items = ScriptReader::new(plan.script);
-    while let Some(item) = items.next_item() {
-        advance(plan, crew, service, source, &mut collected, item)?;
-    }
-    settle(plan, crew, service, &mut collected, 0)?;
-    Ok(collected.into_entries())
-}
-
-/// Takes an item, once few enough searches are open, and notes an answer that is there.
-fn advance<J: Naming, R: Wait + Clock, S: Source, G: Gate>(
-    plan: &Plan<'_, J, R, G>,
-    crew: &Crew<J>,
-    service: &mut Service<J>,
-    source: &mut S,
-    collected: &mut Collected,
-    item: Numbered<'_>,
-) -> Result<(), AllocError>
-    requires few { service.old.searches + 1 < 2 ^ 32 }
-    ensures taken { OnOk result (TakesOne (S.holds source.old) plan.now.options (numbered_item item.entry.line (shown_item item.entry.item))
-        service.old collected.old (S.failed source.old) service.new collected.new (S.failed source.new)) }
-    ensures few { service.new.searches ≤ service.old.searches + 1 }
-    ensures same { (path body : List ℕ) → (S.holds source.new path body → S.holds source.old path body)
-        × (S.holds source.old path body → S.holds source.new path body) }
-    ensures counted { S.failed source.old ≤ S.failed source.new }
-{
-    let most = most_open(plan.options.readers, crew.is_empty(), item.item);
-    settle(plan, crew, service, collected, most)?;
-    take(plan, crew, service, source, collected, item)?;
-    if let Some(done) = crew.ready(plan.rt) {
-        note(plan, service, collected, done);
-    }
-    Ok(())
-}
-
-/// How many searches can be open when an item is taken: none if there are no readers or none is at work, and none at a sync.
-fn most_open(readers: u32, is_alone: bool, item: Item<'_>) -> usize
-    ensures { (result ≡ 0) ⊎ ((0 < readers) × (is_sync (shown_item item.entry) ≡ false)) }
-{
-    match item {
-        Item::Sync => 0,
-        _ if readers == 0 || is_alone => 0,
-        _ => MAX_OPEN - 1,
-    }
-}
-
-/// Waits until at most `most` searches are open.
-fn settle<J: Naming, R: Wait + Clock, G: Gate>(
-    plan: &Plan<'_, J, R, G>,
-    crew: &Crew<J>,
-    service: &mut Service<J>,
-    collected: &mut Collected,
-    most: usize,
-) -> Result<(), AllocError>
-    ensures filled { OnOk result (AreFilled service.old collected.old service.new collected.new) }
-    ensures few_open { OnOk result (length service.new.awaited ≤ most) }
-    ensures few { service.new.searches ≡ service.old.searches }
 {
     for _ in plan.rt.forever() {
-        if service.open_searches() <= most {
-            return Ok(());
+        if !step(plan, service, crew, inbox, sink, source, out)? {
+            return end_of_reading(inbox);
         }
-        let Some(done) = crew.next(plan.rt) else {
-            return Err(AllocError);
-        };
-        note(plan, service, collected, done);
     }
     unreachable!()
 }
 
-/// Notes the entry of a search that a reader has answered.
-fn note<J: Naming, R: Wait + Clock, G: Gate>(
-    plan: &Plan<'_, J, R, G>,
-    service: &mut Service<J>,
-    collected: &mut Collected,
-    done: Done<J>,
-)
-    ensures filled { AreFilled service.old collected.old service.new collected.new }
-    ensures few { service.new.searches ≡ service.old.searches }
+/// The error that ended the reading, if one did.
+fn end_of_reading<K: input::Naming>(inbox: &Inbox<K>) -> Result<(), LiveError>
+    ensures { OnOk result (inbox.now.over ≢ None → EndsBy K.input inbox.now.came None) }
 {
-    if let Some(entry) = service.answered(plan.rt, plan.alloc, done) {
-        collected.fill(entry);
+    match inbox.over() {
+        Some(Some(error)) => Err(of_reading(error)),
+        _ => Ok(()),
     }
 }
 
-/// Takes an item. A search is handed out.
-fn take<J: Naming, R: Wait + Clock, S: Source, G: Gate>(
-    plan: &Plan<'_, J, R, G>,
-    crew: &Crew<J>,
+/// Takes the next item, or waits for the next event. Returns whether it goes on. If it does not, the reading has ended, all
+/// items are taken, and no search is open.
+fn step<
+    J: service::Naming,
+    K: input::Naming,
+    R: Threads + Wait + Clock + Sync,
+    S: Source,
+    I: BufRead + Drop,
+    T: Sink<O>,
+    O,
+>(
+    plan: &Plan<'_, R>,
     service: &mut Service<J>,
+    crew: &mut Crew<J, K, I>,
+    inbox: &mut Inbox<K>,
+    sink: &mut T,
     source: &mut S,
-    collected: &mut Collected,
-    item: Numbered<'_>,
-) -> Result<(), AllocError>
-    requires few { service.old.searches + 1 < 2 ^ 32 }
-    requires open_searches { (service.old.awaited ≡ []) ⊎ ((0 < plan.now.options.readers) × (is_sync (shown_item item.item) ≡ false)) }
-    ensures taken { OnOk result (TakesOne (S.holds source.old) plan.now.options (numbered_item item.entry.line (shown_item item.entry.item))
-        service.old collected.old (S.failed source.old) service.new collected.new (S.failed source.new)) }
-    ensures few { service.new.searches ≤ service.old.searches + 1 }
+    out: &mut O,
+) -> Result<bool, LiveError>
+    ensures ok { IfOk result (λ goes_on. (start : Start T O)
+        → IsServing T.does (S.holds source.old) plan.now.readers K.input start inbox.old (now service.old (S.failed source.old) sink.old out.old)
+        → IsAdvanced T.does (S.holds source.old) plan.now.readers K.input start goes_on inbox.new (now service.new (S.failed source.new) sink.new out.new)) }
+    ensures err { OnErr result ((start : Start T O)
+        → IsServing T.does (S.holds source.old) plan.now.readers K.input start inbox.old (now service.old (S.failed source.old) sink.old out.old)
+        → IsCutOff T.does T.fails (S.holds source.old) plan.now.readers K.input start (S.failed source.new) sink.new out.new) }
     ensures same { (path body : List ℕ) → (S.holds source.new path body → S.holds source.old path body)
         × (S.holds source.old path body → S.holds source.new path body) }
     ensures counted { S.failed source.old ≤ S.failed source.new }
 {
-    match service.take(plan.rt, plan.alloc, source, item) {
-        Taken::Entry(entry) => collected.push(entry),
+    if service.is_full() {
+        return Err(LiveError::TooManySearches);
+    }
+    let waits = service.open_searches();
+    if !may_take(plan.readers, crew.is_alone(), waits) {
+        return take_event(plan, service, crew, inbox, sink, out);
+    }
+    match inbox.next_ready(waits == 0) {
+        Some(read) => {
+            take(plan, service, crew, sink, source, out, read)?;
+            crew.permit(plan.rt);
+            Ok(true)
+        }
+        None if waits == 0 && inbox.over().is_some() => Ok(false),
+        None => take_event(plan, service, crew, inbox, sink, out),
+    }
+}
+
+/// Whether an item that is no sync can be taken while so many searches are open.
+fn may_take(readers: u32, is_alone: bool, searches: usize) -> bool
+    ensures { result ≡ true → (searches ≡ 0) ⊎ (0 < readers) }
+{
+    searches == 0 || (readers > 0 && !is_alone && searches < MAX_OPEN)
+}
+
+/// Waits for the next event. As long as none is there and a thread reads, the service catches up, piece by piece.
+fn next_event<J: service::Naming, K: input::Naming, R: Wait, I: BufRead + Drop>(
+    plan: &Plan<'_, R>,
+    service: &mut Service<J>,
+    crew: &mut Crew<J, K, I>,
+) -> Option<Event<J, K>>
+    ensures { service.new ≡ service.old }
+{
+    for _ in plan.rt.forever() {
+        if let Some(event) = crew.ready(plan.rt) {
+            return Some(event);
+        }
+        if crew.reads_here() || !service.catch_up(plan.rt) {
+            return crew.next(plan.rt);
+        }
+    }
+    unreachable!()
+}
+
+/// Waits for the next event, and takes it. Returns `true`.
+fn take_event<
+    J: service::Naming,
+    K: input::Naming,
+    R: Threads + Wait + Clock + Sync,
+    I: BufRead + Drop,
+    T: Sink<O>,
+    O,
+>(
+    plan: &Plan<'_, R>,
+    service: &mut Service<J>,
+    crew: &mut Crew<J, K, I>,
+    inbox: &mut Inbox<K>,
+    sink: &mut T,
+    out: &mut O,
+) -> Result<bool, LiveError>
+    ensures ok { IfOk result (λ goes_on. (goes_on ≡ true)
+        × TakesEvent T.does K.input inbox.old service.old sink.old out.old inbox.new service.new sink.new out.new) }
+    ensures err { OnErr result (FailsAtEvent T.fails service.old sink.old out.old service.new sink.new out.new) }
+{
+    match next_event(plan, service, crew) {
+        Some(Event::Read(next)) => match inbox.take_in(next) {
+            Ok(()) => Ok(true),
+            Err(error) => Err(of_inbox(error)),
+        },
+        Some(Event::Answer(done)) => {
+            take_answer(plan, service, sink, out, done)?;
+            Ok(true)
+        }
+        None => Err(LiveError::CannotRead),
+    }
+}
+
+/// Tells the sink what a reader answered.
+fn take_answer<J: service::Naming, R: Threads + Wait + Clock + Sync, T: Sink<O>, O>(
+    plan: &Plan<'_, R>,
+    service: &mut Service<J>,
+    sink: &mut T,
+    out: &mut O,
+    done: Done<J>,
+) -> Result<(), LiveError>
+    ensures ok { OnOk result (Answers T.does service.old sink.old out.old service.new sink.new out.new) }
+    ensures err { OnErr result (AnswersFront T.fails service.old sink.old out.old service.new sink.new out.new) }
+{
+    match service.answered(plan.rt, plan.alloc, done) {
+        Some(entry) => sink.note(plan.rt, plan.alloc, News::Answer(entry), out),
+        None => Ok(()),
+    }
+}
+
+/// Takes an item, and tells the sink what became of it. A search is handed out.
+fn take<
+    J: service::Naming,
+    K: input::Naming,
+    R: Threads + Wait + Clock + Sync,
+    S: Source,
+    I: BufRead + Drop,
+    T: Sink<O>,
+    O,
+>(
+    plan: &Plan<'_, R>,
+    service: &mut Service<J>,
+    crew: &Crew<J, K, I>,
+    sink: &mut T,
+    source: &mut S,
+    out: &mut O,
+    read: ReadItem,
+) -> Result<(), LiveError>
+    requires few { service.old.searches + 1 < 2 ^ 32 }
+    requires may { MayTakeNow plan.now.readers service.old read.item }
+    ensures ok { OnOk result (TakesOne T.does (S.holds source.old) plan.now.readers read
+        (now service.old (S.failed source.old) sink.old out.old) (now service.new (S.failed source.new) sink.new out.new)) }
+    ensures err { OnErr result (FailsAtOne T.does T.fails (S.holds source.old) plan.now.readers read
+        (now service.old (S.failed source.old) sink.old out.old) (S.failed source.new) sink.new out.new) }
+    ensures same { (path body : List ℕ) → (S.holds source.new path body → S.holds source.old path body)
+        × (S.holds source.old path body → S.holds source.new path body) }
+    ensures counted { S.failed source.old ≤ S.failed source.new }
+{
+    match service.take(plan.rt, plan.alloc, source, read) {
+        Taken::Entry(entry) => sink.note(plan.rt, plan.alloc, News::Entry(entry), out),
         Taken::Search(task) => {
-            let open = Entry::SearchRefused {
-                search: service.searches(),
-                reason: SearchReason::OutOfMemory,
-            };
-            collected.push(open)?;
-            hand_out(plan, crew, service, collected, task);
-            Ok(())
+            sink.note(plan.rt, plan.alloc, News::Open(service.searches()), out)?;
+            hand_out(plan, service, crew, sink, out, task)
         }
-        Taken::Cancelled(entry) => {
-            collected.fill(entry);
-            Ok(())
-        }
+        Taken::Cancelled(entry) => sink.note(plan.rt, plan.alloc, News::Answer(entry), out),
         Taken::Nothing => Ok(()),
     }
 }
 
-/// Hands a search to the readers. If they cannot have it, it is answered here.
-fn hand_out<J: Naming, R: Wait + Clock, G: Gate>(
-    plan: &Plan<'_, J, R, G>,
-    crew: &Crew<J>,
+/// Hands a search to the readers. If they cannot have it, it is answered here, and the sink gets its entry.
+fn hand_out<
+    J: service::Naming,
+    K: input::Naming,
+    R: Threads + Wait + Clock + Sync,
+    I: BufRead + Drop,
+    T: Sink<O>,
+    O,
+>(
+    plan: &Plan<'_, R>,
     service: &mut Service<J>,
-    collected: &mut Collected,
+    crew: &Crew<J, K, I>,
+    sink: &mut T,
+    out: &mut O,
     task: Task,
-)
-    ensures filled { AreFilled service.old collected.old service.new collected.new }
-    ensures few { service.new.searches ≡ service.old.searches }
+) -> Result<(), LiveError>
+    ensures ok { OnOk result (Answers T.does service.old sink.old out.old service.new sink.new out.new) }
+    ensures err { OnErr result (AnswersFront T.fails service.old sink.old out.old service.new sink.new out.new) }
 {
     let Some(task) = crew.hand_out(plan.rt, task) else {
-        return;
+        return Ok(());
     };
-    if let Some(entry) = service.answer_here(plan.rt, plan.alloc, &task) {
-        collected.fill(entry);
+    match service.answer_here(plan.rt, plan.alloc, &task) {
+        Some(entry) => sink.note(plan.rt, plan.alloc, News::Answer(entry), out),
+        None => Ok(()),
     }
 }

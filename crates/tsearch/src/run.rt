@@ -1,18 +1,23 @@
 //! Runs of scripts.
 
-ghost use Rattle.std.specs.Prelude.{◌≡◌, ℕ, ◌<◌, ◌≤◌, ◌↔◌, List, IfOk, IsErrOf, MatchBool, length};
+ghost use Rattle.std.specs.Prelude.{◌≡◌, ℕ, ◌<◌, ◌≤◌, ◌↔◌, List, [], None, Some, IfOk, IsErrOf, MatchBool, length};
+ghost use Rattle.input.specs.Read.{IsReadOf, inbox_state};
 ghost use Rattle.published.specs.declared.opening.TheConstants.{MAX_COMMANDS};
 ghost use Rattle.service.specs.Opening.{opened_state};
 ghost use Rattle.service.specs.Service.{first_service};
 ghost use Rattle.tsearch.specs.Legal.{IsLegal, limits_in};
+ghost use Rattle.tsearch.specs.Private.Sinks.{IsLegalFor};
 
-use crate::crew::Crew;
+use crate::crew::{Crew, Lent};
+use crate::error::LiveError;
 use crate::items::{Plan, carry_out_all};
 use core::mem::replace_with;
+use input::{Feed, Inbox};
 use published::OpenError;
 use script::MAX_SCRIPT;
-use service::{Gate, Naming, Opened, Reader, Service, Source, open};
-use std::alloc::{AllocError, Global};
+use service::{Collected, Gate, Reader, Service, Source, open};
+use std::alloc::Global;
+use std::io::BufRead;
 use std::marker::{Brand, PhantomData};
 use std::sync::Wait;
 use std::thread::{self, Threads};
@@ -61,8 +66,8 @@ pub enum RunError {
 /// Whatever the result, the source holds afterwards what it held before, and its count of failures has not fallen.
 ///
 /// `ScriptTooLong` is returned exactly when the script has over 67,108,864 bytes. `NoPlace` means that a reader got no
-/// place, and `OutOfMemory` that memory ran out for the run itself. After an `Err` there is no transcript. All workers
-/// have ended when `run` returns.
+/// place, and `OutOfMemory` that memory ran out for the run itself, or for the text of a line. After an `Err` there is no
+/// transcript. All workers have ended when `run` returns.
 pub fn run<R: Threads + Wait + Clock + Sync, S: Source + Drop, G: Gate>(
     rt: &R,
     alloc: Global,
@@ -95,16 +100,10 @@ pub fn run<R: Threads + Wait + Clock + Sync, S: Source + Drop, G: Gate>(
         Err(OpenError::NoPlace) => return Err(RunError::NoPlace),
         Err(OpenError::OutOfMemory) => return Err(RunError::OutOfMemory),
     };
-    let of = PhantomData;
-    let plan = Plan {
-        rt,
-        alloc,
-        script,
-        options,
-        gate,
-        of: &of,
-    };
-    match run_as::<Brand, R, S, G>(&plan, opened, source) {
+    let history = input::Opened::new();
+    match run_as::<Brand, Brand, R, S, G>(
+        rt, alloc, opened, history, script, options, source, gate,
+    ) {
         Ok(entries) => Ok(Transcript { entries }),
         Err(_) => Err(RunError::OutOfMemory),
     }
@@ -117,42 +116,83 @@ fn is_too_long(script: &[u8]) -> bool
     script.len() > MAX_SCRIPT
 }
 
-/// Runs the script under the name of its opening.
+/// Runs the script under the names of its opening and of its reading.
 fn run_as<
-    J: Naming + Send + Sync + 'static,
+    J: service::Naming + Send + Sync + 'static,
+    K: input::Naming + Send + Sync + 'static,
     R: Threads + Wait + Clock + Sync,
     S: Source + Drop,
     G: Gate,
->(plan: &Plan<'_, J, R, G>, opened: Opened, source: &mut S) -> Result<Vec<Entry>, AllocError>
-    requires script { length plan.now.script.now ≤ MAX_SCRIPT }
-    requires opened { opened ≡ opened_state J.book (limits_in plan.now.options) plan.now.options.readers }
-    ensures legal { IfOk result (λ entries. IsLegal plan.now.script.now plan.now.options (S.holds source.old)
+>(
+    rt: &R,
+    alloc: Global,
+    opened: service::Opened,
+    history: input::Opened,
+    script: &[u8],
+    options: Options,
+    source: &mut S,
+    gate: &G,
+) -> Result<Vec<Entry>, LiveError>
+    requires opened { opened ≡ opened_state J.book (limits_in options) options.readers }
+    requires history { history.book ≡ K.book }
+    requires input { K.input ≡ Some script.now }
+    ensures legal { IfOk result (λ entries. IsLegal script.now options (S.holds source.old)
         (S.failed source.old) (S.failed source.new) entries.items) }
     ensures same { (path body : List ℕ) → (S.holds source.new path body → S.holds source.old path body)
         × (S.holds source.old path body → S.holds source.new path body) }
     ensures counted { S.failed source.old ≤ S.failed source.new }
 {
-    let (mut service, readers) = opened.named::<J, R>(plan.rt, plan.alloc)?;
-    let ran = in_scope(plan, &mut service, readers, source);
-    service.close(plan.rt);
+    let Ok((service, readers)) = opened.named::<J, R>(rt, alloc) else {
+        return Err(LiveError::OutOfMemory);
+    };
+    let mut service = service;
+    let (book, front) = history.named::<K>();
+    let inbox = Inbox::new(alloc, front.again());
+    let feed = Feed::new(alloc, book, front, script);
+    let of = PhantomData;
+    let lent = Lent {
+        rt,
+        alloc,
+        gate,
+        of: &of,
+    };
+    let hands = Hands {
+        readers,
+        feed,
+        inbox,
+    };
+    let ran = in_scope(&lent, options, &mut service, hands, source);
+    service.close(rt);
     ran
+}
+
+/// What a run works with, besides its service: the readers, the script, and what came of it.
+#[derive(Drop)]
+struct Hands<J: service::Naming, K: input::Naming, I: BufRead + Drop> {
+    readers: Vec<Reader<J>>,
+    feed: Feed<K, I>,
+    inbox: Inbox<K>,
 }
 
 /// Runs the script with workers in a scope. All of them have ended when it returns.
 fn in_scope<
-    J: Naming + Send + Sync + 'static,
+    J: service::Naming + Send + Sync + 'static,
+    K: input::Naming + Send + Sync + 'static,
     R: Threads + Wait + Clock + Sync,
     S: Source + Drop,
+    I: BufRead + Drop,
     G: Gate,
 >(
-    plan: &Plan<'_, J, R, G>,
+    lent: &Lent<'_, J, K, R, G>,
+    options: Options,
     service: &mut Service<J>,
-    readers: Vec<Reader<J>>,
+    hands: Hands<J, K, I>,
     source: &mut S,
-) -> Result<Vec<Entry>, AllocError>
-    requires script { length plan.now.script.now ≤ MAX_SCRIPT }
-    requires first { service.old ≡ first_service (limits_in plan.now.options) plan.now.options.readers }
-    ensures legal { IfOk result (λ entries. IsLegal plan.now.script.now plan.now.options (S.holds source.old)
+) -> Result<Vec<Entry>, LiveError>
+    requires first { service.old ≡ first_service (limits_in options) options.readers }
+    requires inbox { hands.inbox ≡ inbox_state [] [] None }
+    requires read { IsReadOf K.input hands.inbox.came }
+    ensures legal { IfOk result (λ entries. IsLegalFor K.input options (S.holds source.old)
         (S.failed source.old) (S.failed source.new) entries.items) }
     ensures same { (path body : List ℕ) → (S.holds source.new path body → S.holds source.old path body)
         × (S.holds source.old path body → S.holds source.new path body) }
@@ -160,54 +200,121 @@ fn in_scope<
 {
     replace_with(
         source,
-        readers,
-        |source: S, readers: Vec<Reader<J>>| -> (S, Result<Vec<Entry>, AllocError>)
-            requires script { length plan.now.script.now ≤ MAX_SCRIPT }
-            requires first { service.now ≡ first_service (limits_in plan.now.options) plan.now.options.readers }
-            ensures legal { IfOk result.1 (λ entries. IsLegal plan.entry.now.script.now plan.entry.now.options
+        hands,
+        |source: S, hands: Hands<J, K, I>| -> (S, Result<Vec<Entry>, LiveError>)
+            requires first { service.now ≡ first_service (limits_in options) options.readers }
+            requires inbox { hands.inbox ≡ inbox_state [] [] None }
+            requires read { IsReadOf K.input hands.inbox.came }
+            ensures legal { IfOk result.1 (λ entries. IsLegalFor K.input options
                 (S.holds source) (S.failed source) (S.failed result.0) entries.items) }
             ensures same { (path body : List ℕ) → (S.holds result.0 path body → S.holds source path body)
                 × (S.holds source path body → S.holds result.0 path body) }
             ensures counted { S.failed source ≤ S.failed result.0 }
-        { scoped(plan, service, readers, source) },
+        { scoped(lent, options, service, hands, source) },
     )
 }
 
 /// A closure can keep only values that can be dropped, so the source is passed through it by value.
 fn scoped<
-    J: Naming + Send + Sync + 'static,
+    J: service::Naming + Send + Sync + 'static,
+    K: input::Naming + Send + Sync + 'static,
     R: Threads + Wait + Clock + Sync,
     S: Source + Drop,
+    I: BufRead + Drop,
     G: Gate,
 >(
-    plan: &Plan<'_, J, R, G>,
+    lent: &Lent<'_, J, K, R, G>,
+    options: Options,
     service: &mut Service<J>,
-    readers: Vec<Reader<J>>,
+    hands: Hands<J, K, I>,
     source: S,
-) -> (S, Result<Vec<Entry>, AllocError>)
-    requires script { length plan.now.script.now ≤ MAX_SCRIPT }
-    requires first { service.old ≡ first_service (limits_in plan.now.options) plan.now.options.readers }
-    ensures legal { IfOk result.1 (λ entries. IsLegal plan.now.script.now plan.now.options
+) -> (S, Result<Vec<Entry>, LiveError>)
+    requires first { service.old ≡ first_service (limits_in options) options.readers }
+    requires inbox { hands.inbox ≡ inbox_state [] [] None }
+    requires read { IsReadOf K.input hands.inbox.came }
+    ensures legal { IfOk result.1 (λ entries. IsLegalFor K.input options
         (S.holds source) (S.failed source) (S.failed result.0) entries.items) }
-    ensures same { (path body : List ℕ) → (S.holds result.0 path body → S.holds source path body) × (S.holds source path body → S.holds result.0 path body) }
+    ensures same { (path body : List ℕ) → (S.holds result.0 path body → S.holds source path body)
+        × (S.holds source path body → S.holds result.0 path body) }
     ensures counted { S.failed source ≤ S.failed result.0 }
 {
     thread::scope(
         thread::scope_env(),
-        plan.rt,
-        move |scope| -> (S, Result<Vec<Entry>, AllocError>)
-            requires script { length plan.now.script.now ≤ MAX_SCRIPT }
-            requires first { service.now ≡ first_service (limits_in plan.now.options) plan.now.options.readers }
-            ensures legal { IfOk result.1 (λ entries. IsLegal plan.entry.now.script.now plan.entry.now.options
+        lent.rt,
+        move |scope| -> (S, Result<Vec<Entry>, LiveError>)
+            requires first { service.now ≡ first_service (limits_in options) options.readers }
+            requires inbox { hands.inbox ≡ inbox_state [] [] None }
+            requires read { IsReadOf K.input hands.inbox.came }
+            ensures legal { IfOk result.1 (λ entries. IsLegalFor K.input options
                 (S.holds source) (S.failed source) (S.failed result.0) entries.items) }
             ensures same { (path body : List ℕ) → (S.holds result.0 path body → S.holds source path body)
                 × (S.holds source path body → S.holds result.0 path body) }
             ensures counted { S.failed source ≤ S.failed result.0 }
         {
             let mut source = source;
-            let crew = Crew::start(scope, plan, readers);
-            let ran = carry_out_all(plan, &crew, service, &mut source);
+            let Hands {
+                readers,
+                feed,
+                inbox,
+            } = hands;
+            let crew = Crew::in_scope(scope, lent, feed, readers);
+            let ran = collect_all(
+                lent.rt,
+                lent.alloc,
+                options,
+                service,
+                crew,
+                inbox,
+                &mut source,
+            );
             (source, ran)
         },
     )
+}
+
+/// Carries out the whole script, and returns the entries in the order of the items.
+fn collect_all<
+    J: service::Naming,
+    K: input::Naming,
+    R: Threads + Wait + Clock + Sync,
+    S: Source,
+    I: BufRead + Drop,
+>(
+    rt: &R,
+    alloc: Global,
+    options: Options,
+    service: &mut Service<J>,
+    crew: Crew<J, K, I>,
+    inbox: Inbox<K>,
+    source: &mut S,
+) -> Result<Vec<Entry>, LiveError>
+    requires first { service.old ≡ first_service (limits_in options) options.readers }
+    requires inbox { inbox ≡ inbox_state [] [] None }
+    requires read { IsReadOf K.input inbox.came }
+    ensures legal { IfOk result (λ entries. IsLegalFor K.input options (S.holds source.old)
+        (S.failed source.old) (S.failed source.new) entries.items) }
+    ensures same { (path body : List ℕ) → (S.holds source.new path body → S.holds source.old path body)
+        × (S.holds source.old path body → S.holds source.new path body) }
+    ensures counted { S.failed source.old ≤ S.failed source.new }
+{
+    let plan = Plan {
+        rt,
+        alloc,
+        readers: options.readers,
+    };
+    let mut crew = crew;
+    let mut inbox = inbox;
+    let mut collected = Collected::new(alloc);
+    match carry_out_all(
+        &plan,
+        service,
+        &mut crew,
+        &mut inbox,
+        &mut collected,
+        source,
+        &mut (),
+    ) {
+        Ok(()) => Ok(collected.into_entries()),
+        Err(error) => Err(error),
+    }
 }

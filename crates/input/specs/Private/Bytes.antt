@@ -4,9 +4,9 @@ use Rattle.std.specs.declared.result.Result.{Result}
 use Rattle.std.specs.Io.KnownBytes.{IsAtEnd}
 use Rattle.index.specs.declared.body.TheConstants.{MAX_BODY}
 use Rattle.script.specs.Items.{line_feeds}
-use Rattle.input.specs.declared.item.StreamError.{StreamError}
+use Rattle.input.specs.declared.error.StreamError.{StreamError}
 use Rattle.input.specs.declared.body.Passed.{Passed}
-use Rattle.input.specs.declared.body.Piece.{Piece}
+use Rattle.input.specs.declared.body.PassedPiece.{PassedPiece}
 use Rattle.input.specs.declared.body.Closing.{Closing}
 use Rattle.input.specs.declared.body.Closing.TheVariants.{LineFeed, OtherByte, InputEnd}
 use Rattle.input.specs.declared.body.PutBody.{PutBody}
@@ -31,7 +31,7 @@ abbrev pub Counts : Passed → List ℕ → Type 0
 Counts passed bytes = (passed.count ≡ length bytes) × (passed.line_feeds ≡ line_feeds bytes)
 
 -- a piece was passed over; if `more` is `false`, the input has ended
-abbrev pub PassesPiece : ℕ → Result Piece StreamError → List ℕ → Option (List ℕ) → Option (List ℕ) → Type 0
+abbrev pub PassesPiece : ℕ → Result PassedPiece StreamError → List ℕ → Option (List ℕ) → Option (List ℕ) → Type 0
 PassesPiece most (Ok piece) bytes was left = Counts piece.passed bytes × (length bytes ≤ most) × (IsFalse piece.more → OnSome was (IsAtEnd left))
 PassesPiece most (Err error) bytes was left = ⊤
 

@@ -3,9 +3,9 @@ use Rattle.std.specs.Prelude.{◌≡◌, ℕ, List, [], ◌∷◌, ◌++◌, len
 use Rattle.std.specs.declared.result.Result.{Result}
 use Rattle.std.specs.Io.KnownBytes.{IsAtEnd}
 use Rattle.script.specs.Items.{Numbered, ItemsFrom, IsLine, is_blank}
-use Rattle.input.specs.declared.item.StreamError.{StreamError}
-use Rattle.input.specs.declared.line.Piece.{Piece}
-use Rattle.input.specs.declared.line.Piece.TheVariants.{More, LineFeed, InputEnd}
+use Rattle.input.specs.declared.error.StreamError.{StreamError}
+use Rattle.input.specs.declared.line.After.{After}
+use Rattle.input.specs.declared.line.After.TheVariants.{More, LineFeed, InputEnd}
 use Rattle.input.specs.declared.line.LineStart.{LineStart}
 
 abbrev pub line_feed_if : Bool → List ℕ
@@ -13,13 +13,13 @@ line_feed_if true = 10 ∷ []
 line_feed_if false = []
 
 -- The front of these bytes is this piece of a line, and the line goes on like this after it.
-abbrev pub IsPart : List ℕ → List ℕ → ℕ → Piece → Type 0
-IsPart shown line taken More = IsLine line × (take taken shown ≡ line)
-IsPart shown line taken LineFeed = IsLine line × (take taken shown ≡ line ++ 10 ∷ [])
-IsPart shown line taken InputEnd = (line ≡ []) × (taken ≡ 0) × (length shown ≡ 0)
+abbrev pub IsPiece : List ℕ → List ℕ → ℕ → After → Type 0
+IsPiece shown line taken More = IsLine line × (take taken shown ≡ line)
+IsPiece shown line taken LineFeed = IsLine line × (take taken shown ≡ line ++ 10 ∷ [])
+IsPiece shown line taken InputEnd = (line ≡ []) × (taken ≡ 0) × (length shown ≡ 0)
 
 -- The text of a line grew by what was taken from the input.
-abbrev pub Grows : List ℕ → Result Piece StreamError → List ℕ → List ℕ → Option (List ℕ) → Option (List ℕ) → Type 0
+abbrev pub Grows : List ℕ → Result After StreamError → List ℕ → List ℕ → Option (List ℕ) → Option (List ℕ) → Type 0
 Grows old (Ok More) new bytes was left = IsLine bytes × (new ≡ old ++ bytes)
 Grows old (Ok LineFeed) new bytes was left = (line : List ℕ) × (bytes ≡ line ++ 10 ∷ []) × IsLine line × (new ≡ old ++ line)
 Grows old (Ok InputEnd) new bytes was left = (bytes ≡ []) × (new ≡ old) × OnSome was (IsAtEnd left)

@@ -1,8 +1,7 @@
--- A text cut in two at a byte, and the first line of a text.
-use Rattle.std.specs.Prelude.{◌≡◌, ◌≢◌, ℕ, List, ◌∷◌, ◌++◌, Option, Some, None}
+-- A text cut in two at a byte.
+use Rattle.std.specs.Prelude.{◌≡◌, ◌≢◌, ℕ, List, ◌∷◌, ◌++◌, Option}
 use Rattle.std.specs.List.{AllByRecursion}
 use Rattle.script.specs.Fields.{Fields}
-use Rattle.script.specs.Items.{IsLine}
 
 abbrev pub Lacks : ℕ → List ℕ → Type 0
 Lacks byte text = AllByRecursion (λ b. b ≢ byte) text
@@ -16,11 +15,6 @@ pub record Cuts (byte : ℕ) (text front back : List ℕ) : Type 0 where
 pub record CutsLast (byte : ℕ) (text front back : List ℕ) : Type 0 where
   pub whole : text ≡ front ++ byte ∷ back
   pub last : Lacks byte back
-
--- the first line, and what follows its line feed, if it has one
-abbrev pub CutsLine : List ℕ → List ℕ → Option (List ℕ) → Type 0
-CutsLine text line (Some rest) = Cuts 10 text line rest
-CutsLine text line None = (text ≡ line) × IsLine line
 
 abbrev pub shown_fields : List ℕ → Option (List ℕ) → Fields
 shown_fields first others = record { first = first; others = others }

@@ -1,5 +1,5 @@
 -- What is gathered of documents, one after another.
-use Rattle.std.specs.Prelude.{◌≡◌, ℕ, suc, ◌+◌, ◌-◌, Bool, true, false, MatchBool, List, [], ◌∷◌, ◌++◌, length, flat_map, drop, Option, Some, None, option_map, if◌then◌else◌}
+use Rattle.std.specs.Prelude.{◌≡◌, ℕ, zero, suc, ◌+◌, ◌-◌, min, Bool, true, false, List, [], ◌∷◌, ◌++◌, length, flat_map, drop, Option, Some, None, option_map, if◌then◌else◌}
 use Rattle.std.specs.List.{AllByRecursion}
 use Rattle.std.specs.Str.{bytes_eq}
 use Rattle.index.specs.Documents.{Document}
@@ -13,15 +13,14 @@ use Rattle.views.specs.Parts.{text_of_parts}
 use Rattle.prepare.specs.Prepared.{request_of}
 use Rattle.search.specs.Private.Documents.{lines_of_taken}
 use Rattle.search.specs.Private.Rows.{AreRowsOf}
-use Rattle.prepare.specs.declared.pattern.Prepared.{Prepared}
 use Rattle.prepare.specs.Request.{Request}
 use Rattle.views.specs.Found.{Hit}
 use Rattle.search.specs.Selects.{Selects, IsAsked}
 use Rattle.views.specs.Shown.{Shown}
 use Rattle.prepare.specs.Tests.{test_of}
-use Rattle.views.specs.Text.{text_of_hits, text_of_rows}
+use Rattle.views.specs.Text.{text_of_rows}
 use Rattle.search.specs.Rows.{AreRows, at_most, body_of, hits_in, is_over, limited, names_of, total}
-use Rattle.views.specs.View.{Row, gap, stretches}
+use Rattle.views.specs.View.{Row, gap, shows_names, stretches}
 
 -- what is left of a limit when so many are shown
 abbrev pub left_from : Option ℕ → ℕ → Option ℕ
@@ -68,22 +67,33 @@ pub record IsGathered (request : Request) (shown : View) (documents : List Share
   pub count : counted ≡ at_most request.limit (total shown hits)
   pub more : over ≡ is_over request.limit (total shown hits)
 
-abbrev pub view_of : Wanted → View
-view_of wanted = if wanted.lines then view.Lines else wanted.prepared.now.view
-
 abbrev pub request_for : Wanted → Request
 request_for wanted = with_limit wanted.limit (request_of wanted.prepared.now)
 
 abbrev pub FoundIn : Wanted → List SharedDocument → List Hit → Type 0
 FoundIn wanted documents hits = Selects (IsAsked (test_of wanted.prepared.now.line)) (flat_map lines_of_taken documents) hits
 
+-- lines alone are shown: their text is formed later
+abbrev pub shows_lines : View → Bool
+shows_lines view.Lines = true
+shows_lines _ = false
+
+-- of hits those that are kept
+abbrev pub kept_of : View → List Hit → List Hit
+kept_of shown hits = if shows_lines shown then hits else []
+
+-- of rows those whose text is formed
+abbrev pub formed_of : View → List Row → List Row
+formed_of shown rows = if shows_lines shown then [] else rows
+
 -- It is what is shown of these documents. Where lines alone are shown, these are kept, and otherwise the text of the rows.
 pub record Gathers (wanted : Wanted) (documents : List SharedDocument) (gathered : Gathered) : Type 0 where
   pub hits : List Hit
   pub found : FoundIn wanted documents hits
   pub rows : List Row
-  pub is_gathered : IsGathered (request_for wanted) (view_of wanted) documents hits rows gathered.count gathered.more
-  pub held : MatchBool wanted.lines (gathered.hits ≡ limited wanted.limit hits) (gathered.text.items ≡ text_of_rows wanted.prepared.now.zero rows)
+  pub is_gathered : IsGathered (request_for wanted) wanted.view documents hits rows gathered.count gathered.more
+  pub kept : gathered.hits ≡ kept_of wanted.view (limited wanted.limit hits)
+  pub text : gathered.text.items ≡ text_of_rows wanted.prepared.now.zero (formed_of wanted.view rows)
   pub row_count : gathered.rows ≡ length rows
 
 -- If the old one is what is shown of some documents, the new one is what is shown of them and of these after them.
@@ -91,20 +101,46 @@ abbrev pub GathersMore : Wanted → List SharedDocument → Gathered → Gathere
 GathersMore wanted documents old new =
     (before : List SharedDocument) → HaveOwnNames (before ++ documents) → Gathers wanted before old → Gathers wanted (before ++ documents) new
 
--- so many hits of a document are looked for where only its name is shown, or the name with their number
-unfoldable pub AsksForName : View → Option ℕ → Type 0
-AsksForName view.Names most = most ≡ Some 1
-AsksForName view.Counts most = most ≡ None
-AsksForName _ most = ⊥
+-- ---- one document, where so many lines, or names, are left of the limit
 
--- The rows of a document, of which these hits are shown, are added, and so many more are counted.
-pub record AddsRows (prepared : Prepared) (document : SharedDocument) (hits : List Hit) (counted : ℕ) (old new : Gathered) : Type 0 where
+-- all hits say how many there are; where nothing is left, one says that there is one
+abbrev pub all_or_one : Option ℕ → Option ℕ
+all_or_one (Some zero) = Some 1
+all_or_one left = None
+
+-- so many of its hits say what is shown of it
+abbrev pub asked : View → Option ℕ → Option ℕ
+asked view.Names left = Some 1
+asked view.Counts left = all_or_one left
+asked _ left = one_more left
+
+-- so many more than there are before
+abbrev pub beyond : ℕ → Option ℕ → Option ℕ
+beyond before most = option_map (λ n. before + n) most
+
+-- how many lines, or names, there are to be shown of so many hits
+abbrev pub number_of : View → ℕ → ℕ
+number_of shown hits = if shows_names shown then min hits 1 else hits
+
+-- the hits whose rows are shown
+abbrev pub shown_hits : View → Option ℕ → List Hit → List Hit
+shown_hits shown left found = if shows_names shown then found else limited left found
+
+-- The rows are those of a document of which these hits were found.
+pub record AreRowsUpTo (request : Request) (shown : View) (document : SharedDocument) (left : Option ℕ) (found : List Hit) (rows : List Row) : Type 0 where
+  pub none : at_most left (number_of shown (length found)) ≡ 0 → rows ≡ []
+  pub some : (at_most left (number_of shown (length found)) ≡ 0 → ⊥)
+      → AreRowsOf request shown document.name document.held (shown_hits shown left found) rows
+
+-- The rows of a document of which these hits were found are added.
+pub record AddsRows (wanted : Wanted) (left : Option ℕ) (document : SharedDocument) (found : List Hit) (old new : Gathered) : Type 0 where
   pub rows : List Row
-  pub are_rows : AreRowsOf (request_of prepared) prepared.view document.name document.held hits rows
-  pub text : new.text.items ≡ old.text.items ++ text_of_rows prepared.zero rows
+  pub are_rows : AreRowsUpTo (request_of wanted.prepared.now) wanted.view document left found rows
+  pub hits : new.hits ≡ old.hits
+  pub text : new.text.items ≡ old.text.items ++ text_of_rows wanted.prepared.now.zero (formed_of wanted.view rows)
   pub row_count : new.rows ≡ old.rows + length rows
-  pub count : new.count ≡ old.count + counted
-  pub more : new.more ≡ old.more
+  pub count : new.count ≡ old.count + at_most left (number_of wanted.view (length found))
+  pub more : new.more ≡ is_over left (number_of wanted.view (length found))
 
 -- A gap, and a row after it, are at the front, unless there are no rows.
 pub data BeginsWithGap : List Row → Type 0 where
@@ -125,13 +161,9 @@ pub record Joins (wanted : Wanted) (limit : Option ℕ) (documents : List Shared
   pub hits : List Hit
   pub found : FoundIn wanted documents hits
   pub rows : List Row
-  pub is_gathered : IsGathered (with_limit limit (request_of wanted.prepared.now)) (view_of wanted) documents hits rows joined.count joined.more
-  pub text : text_of_parts joined.parts.items ≡ text_of_rows wanted.prepared.now.zero (trimmed (view_of wanted) rows)
-  pub row_count : joined.rows ≡ length (trimmed (view_of wanted) rows)
-
--- the text of what is gathered
-abbrev pub text_held : Wanted → Gathered → List ℕ
-text_held wanted gathered = if wanted.lines then text_of_hits wanted.prepared.now.zero gathered.hits else gathered.text.items
+  pub is_gathered : IsGathered (with_limit limit (request_of wanted.prepared.now)) wanted.view documents hits rows joined.count joined.more
+  pub text : text_of_parts joined.parts.items ≡ text_of_rows wanted.prepared.now.zero (trimmed wanted.view rows)
+  pub row_count : joined.rows ≡ length (trimmed wanted.view rows)
 
 -- how many bytes the first gap of so many rows has, and how many rows are left without it
 abbrev pub cut_gap : Bool → ℕ → ℕ × ℕ

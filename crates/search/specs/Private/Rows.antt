@@ -1,11 +1,16 @@
 -- The rows of one document.
-use Rattle.std.specs.Prelude.{◌≡◌, ℕ, List, [], ◌∷◌, length, map}
+use Rattle.std.specs.Prelude.{◌≡◌, ℕ, Bool, true, false, List, [], ◌∷◌, length, map}
 use Rattle.request.specs.declared.options.View.{View}
 use Rattle.request.specs.declared.options.View.TheVariants as view
 use Rattle.prepare.specs.Request.{Request}
 use Rattle.views.specs.Found.{Hit}
 use Rattle.views.specs.View.{Row, hit, name, count, stretches}
 use Rattle.search.specs.Rows.{IsColumnRow, IsSpansRow, RowsOf}
+
+-- The row has the spans of the line's matches, or the column of the first one.
+abbrev pub IsMatchRow : Bool → Request → Hit → Row → Type 0
+IsMatchRow true request = IsSpansRow request
+IsMatchRow false request = IsColumnRow request
 
 -- What is shown of a document with this name and this body, of which these hits are shown. With lines near them the first stretch,
 -- too, has a gap before it.

@@ -6,7 +6,7 @@ use Rattle.request.specs.declared.options.View.{View}
 use Rattle.request.specs.declared.options.View.TheVariants as view
 use Rattle.prepare.specs.Prepared.{request_of}
 use Rattle.search.specs.Rows.{shown_tree}
-use Rattle.prepare.specs.declared.pattern.Prepared.{Prepared}
+use Rattle.search.specs.declared.gathered.Wanted.{Wanted}
 use Rattle.search.specs.declared.seeker.Seeker.{Seeker}
 use Rattle.search.specs.declared.seeker.Tried.{Tried}
 use Rattle.search.specs.declared.seeker.Tried.TheVariants.{Span, From}
@@ -26,9 +26,9 @@ shows_matches view.Spans = true
 shows_matches _ = false
 
 -- There is a seeker of the matches that are shown, or none are shown.
-unfoldable pub CanShow : Prepared → Option Seeker → Type 0
-CanShow prepared None = shows_matches prepared.view ≡ false
-CanShow prepared (Some seeker) = Seeks (shown_tree (request_of prepared)) seeker
+unfoldable pub CanShow : Wanted → Option Seeker → Type 0
+CanShow wanted None = shows_matches wanted.view ≡ false
+CanShow wanted (Some seeker) = Seeks (shown_tree (request_of wanted.prepared.now)) seeker
 
 -- The line has no line feed.
 abbrev pub IsOneLine : List ℕ → Type 0

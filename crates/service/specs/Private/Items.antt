@@ -39,7 +39,8 @@ IsLeft desk told failed desk' told' failed' = (desk' ≡ desk) × (told' ≡ tol
 
 abbrev pub IsCarriedOut : (List ℕ → List ℕ → Type 0) → DeskState → Known → ℕ → Numbered → Outcome → DeskState → Known → ℕ → Type 0
 IsCarriedOut Holds desk told failed item (outcome.Entry entry) desk' told' failed' = IsEntered Holds desk told failed item entry desk' told' failed'
-IsCarriedOut Holds desk told failed item outcome.Search desk' told' failed' = (searches_of item.item ≡ 1) × IsLeft desk told failed desk' told' failed'
+IsCarriedOut Holds desk told failed item (outcome.Search question) desk' told' failed' =
+    (question ≡ item.item) × (searches_of item.item ≡ 1) × IsLeft desk told failed desk' told' failed'
 IsCarriedOut Holds desk told failed item outcome.Sync desk' told' failed' = (is_sync item.item ≡ true) × IsLeft desk told failed desk' told' failed'
 IsCarriedOut Holds desk told failed item (outcome.Cancel number) desk' told' failed' = (item.item ≡ cancel number) × IsLeft desk told failed desk' told' failed'
 IsCarriedOut Holds desk told failed item outcome.Status desk' told' failed' = (item.item ≡ status) × IsLeft desk told failed desk' told' failed'

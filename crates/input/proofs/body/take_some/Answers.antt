@@ -40,7 +40,7 @@ returns g c =
       take taken shown,
       moved.0,
       (
-        c.in_ok-append.ensures,
+        c.in_ok-append.ensures.appended,
         omega (arith, c.min-taken.ensures, length-take taken shown),
         λ e. moved.1 (none_if_not_more _ _ (search rules) e),
       ),

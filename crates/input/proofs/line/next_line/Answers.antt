@@ -20,12 +20,12 @@ returns-in_err-closed g c =
           (g.I.Read.remaining c.take_line.new.input)) c.from_residual.ensures.0 (λ e. tt),
     )
 
-pub returns-then-not-is_blank : goal.returns-then-not-is_blank
-returns-then-not-is_blank g c =
+pub returns-then-not-is_blank_line : goal.returns-then-not-is_blank_line
+returns-then-not-is_blank_line g c =
     let (skipped, before, skips) = c.loop-closed.invariant in
     let (bytes, taken, is) = c.in_ok-closed.ensures in
     let not_blank : IsFalse (is_blank c.take_line.new.text.items) =
-    ap is_blank (sym c.as_slice.ensures.value) ∙ sym c.is_blank.ensures ∙ c.if-not-is_blank.true in
+    ap is_blank (sym c.as_slice.ensures.value) ∙ sym c.is_blank_line.ensures ∙ c.if-not-is_blank_line.true in
     takes_line _ _ _ c.args.first c.loop-closed.line skipped c.take_line.new.text.items bytes before skips taken c.in_ok-closed.closed
     record { line = c.loop-closed.line; closed = c.in_ok-closed.closed } refl refl is not_blank
 
@@ -33,7 +33,7 @@ pub returns-then-not-closed : goal.returns-then-not-closed
 returns-then-not-closed g c =
     let (skipped, before, skips) = c.loop-closed.invariant in
     let (bytes, taken, is) = c.in_ok-closed.ensures in
-    let blank : IsTrue (is_blank c.take_line.new.text.items) = ap is_blank (sym c.as_slice.ensures.value) ∙ sym c.is_blank.ensures ∙ c.if-not-is_blank.false in
+    let blank : IsTrue (is_blank c.take_line.new.text.items) = ap is_blank (sym c.as_slice.ensures.value) ∙ sym c.is_blank_line.ensures ∙ c.if-not-is_blank_line.false in
     skips_all _ _ _ c.args.first c.loop-closed.line skipped c.take_line.new.text.items bytes before skips taken c.in_ok-closed.closed
     c.if-not-closed.true is blank
 
@@ -52,7 +52,7 @@ pub loop-closed-preserved : goal.loop-closed-preserved
 loop-closed-preserved g c =
     let (skipped, before, skips) = c.loop-closed.invariant in
     let (bytes, taken, is) = c.in_ok-closed.ensures in
-    let blank : IsTrue (is_blank c.take_line.new.text.items) = ap is_blank (sym c.as_slice.ensures.value) ∙ sym c.is_blank.ensures ∙ c.if-not-is_blank.false in
+    let blank : IsTrue (is_blank c.take_line.new.text.items) = ap is_blank (sym c.as_slice.ensures.value) ∙ sym c.is_blank_line.ensures ∙ c.if-not-is_blank_line.false in
     let (all, all_taken, more) =
     skips_more _ _ _ c.args.first c.loop-closed.line skipped c.take_line.new.text.items bytes before skips taken c.in_ok-closed.closed
     c.if-not-closed.false is blank in

@@ -22,8 +22,8 @@ loop-preserved g c =
     (cc) in
     record { line = more.0; taken = more.1 }
 
-pub returns-in_err-piece : goal.returns-in_err-piece
-returns-in_err-piece g c =
+pub returns-in_err-after : goal.returns-in_err-after
+returns-in_err-after g c =
     let (bytes, taken, grown) = c.take_piece.ensures in (
       c.loop.text.items ++ bytes,
       Consumes-trans _ _ _ c.loop.text.items bytes c.loop.invariant.taken taken,

@@ -4,7 +4,7 @@ use Rattle.std.proofs.KnownBytes.{Consumes-nil, Consumes-kept}
 use Rattle.std.proofs.BufReadLemmas.{Consumes_shown}
 use Rattle.input.specs.Private.Lines.{Grows}
 use Rattle.input.proofs.ErrLemmas.{at_err}
-use Rattle.input.proofs.LineLemmas.{grows_by_part}
+use Rattle.input.proofs.LineLemmas.{grows_by_piece}
 use Rattle.input.proofs.line.take_piece.Goals as goal
 
 pub returns-in_err-append_piece : goal.returns-in_err-append_piece
@@ -33,11 +33,11 @@ returns g c =
     let shown = c.in-Ok.shown.now in
     let rested = c.fill_buf.follows.lender-at-none in
     let filled = subst (FillKeeps _ (g.I.Read.remaining rested) (g.I.BufRead.consumable_len rested)) c.in-Ok.is c.fill_buf.follows.holds-at-none in
-    let part = c.part_of-part in
+    let piece = c.piece_of-piece in
     let moved =
-    Consumes_shown _ _ _ _ shown part.result.taken part.ensures.within c.in-Ok.ensures.front c.in-Ok.ensures.end filled.0 filled.1
+    Consumes_shown _ _ _ _ shown piece.result.taken piece.ensures.within c.in-Ok.ensures.front c.in-Ok.ensures.end filled.0 filled.1
     c.consume.ensures.bytes in (
-      take part.result.taken shown,
+      take piece.result.taken shown,
       moved.0,
-      grows_by_part part.result.piece shown _ _ _ part.result.taken _ _ part.ensures.part c.in_ok-append_piece.ensures moved.1,
+      grows_by_piece piece.result.after shown _ _ _ piece.result.taken _ _ piece.ensures.piece c.in_ok-append_piece.ensures moved.1,
     )

@@ -1,8 +1,7 @@
 use Rattle.std.proofs.Common.{◌+◌, [], refl}
 use Rattle.std.proofs.KnownBytes.{Consumes-nil}
 use Rattle.script.specs.Items.{bad_put}
-use Rattle.script.specs.Reading.{shown_item}
-use Rattle.input.specs.declared.item.StreamItem.TheVariants as variants
+use Rattle.script.specs.Line.{shown_item}
 use Rattle.input.proofs.TakingLemmas.{step_bad_put, step_other, takes_next}
 use Rattle.input.proofs.stream.take_item.Goals as goal
 
@@ -22,12 +21,12 @@ returns-in-BadPut g c = (
   },
 )
 
-pub returns-in-Other : goal.returns-in-Other
-returns-in-Other g c = (
+pub returns-in-Ok : goal.returns-in-Ok
+returns-in-Ok g c = (
   [],
   Consumes-nil _,
-  takes_next c.go_on_after.result c.args.number 1 c.args.line.now [] _ _ (variants.Other c.in-Other.item) (shown_item c.in-Other.item)
-      c.go_on_after.ensures refl
+  takes_next c.go_on_after.result c.args.number 1 c.args.line.now [] _ _ c.in-Ok.item (shown_item c.in-Other.item)
+      c.go_on_after.ensures c.in-Ok.ensures.shows
       (λ few.
       step_other c.args.number c.args.line.now c.requires.is_line (shown_item c.in-Other.item) (c.args.number + 1) c.in-Other.ensures.0
       c.in-Other.ensures.1 c.in-Other.ensures.2 refl),

@@ -8,17 +8,6 @@ use Rattle.input.proofs.EndLemmas.{end_later}
 use Rattle.input.proofs.TakingLemmas.{step_truncated, step_closed, step_last, step_open, takes_next}
 use Rattle.input.proofs.stream.take_put.Goals as goal
 
-pub returns-in_err-put : goal.returns-in_err-put
-returns-in_err-put g c =
-    let (bytes, taken, _) = c.take_bytes.ensures in (
-      bytes,
-      taken,
-      λ line is.
-          at_err c.from_residual.result
-          (λ r. TakesItem c.args.number line r bytes (g.I.Read.remaining c.args.input.now) (g.I.Read.remaining c.take_bytes.new.input))
-          c.from_residual.ensures.0 (λ e. tt),
-    )
-
 pub returns-then-put-size : goal.returns-then-put-size
 returns-then-put-size g c =
     let (bytes, taken, (holds, counts, upto)) = c.in_ok-put.ensures in (
@@ -45,8 +34,8 @@ returns-in_err-closing g c =
           c.from_residual-in_err-closing.ensures.0 (λ e. tt),
     )
 
-pub returns-in-LineFeed : goal.returns-in-LineFeed
-returns-in-LineFeed g c =
+pub returns-in-Ok : goal.returns-in-Ok
+returns-in-Ok g c =
     let (bytes, taken, (holds, counts, upto)) = c.in_ok-put.ensures in
     let (last, closed, closes') = c.in_ok-closing.ensures in
     let closes = subst (λ k. Closes k last (g.I.Read.remaining c.take_bytes.new.input) (g.I.Read.remaining c.close.new.input)) c.in-LineFeed.is closes' in
@@ -54,15 +43,21 @@ returns-in-LineFeed g c =
       bytes ++ last,
       Consumes-trans _ _ _ bytes last taken closed,
       λ line is.
-          takes_next c.go_on_after.result c.args.number c.saturating_add-lines.result line (bytes ++ last) _ _ c.put_item-item.result
-          (put c.args.name.now bytes) c.go_on_after.ensures (c.put_item-item.ensures c.args.size bytes holds long)
+          takes_next c.go_on_after.result c.args.number c.saturating_add-lines.result line (bytes ++ last) _ _ c.in-Ok.item
+          (put c.args.name.now bytes) c.go_on_after.ensures (c.in-Ok.ensures c.args.size bytes holds long)
           (λ few.
           step_closed c.args.number c.args.size line c.args.name.now bytes is long last _ closes
           (omega (arith, few, c.saturating_add-lines.ensures, counts.1))),
     )
 
-pub returns-in-InputEnd : goal.returns-in-InputEnd
-returns-in-InputEnd g c =
+pub returns-in-Err : goal.returns-in-Err
+returns-in-Err g c =
+    let (bytes, taken, is) = c.in_ok-put.ensures in
+    let (last, closed, closes) = c.in_ok-closing.ensures in
+    (bytes ++ last, Consumes-trans _ _ _ bytes last taken closed, λ line is. tt)
+
+pub returns-in-Ok-put_item : goal.returns-in-Ok-put_item
+returns-in-Ok-put_item g c =
     let (bytes, taken, (holds, counts, upto)) = c.in_ok-put.ensures in
     let (last, closed, closes') = c.in_ok-closing.ensures in
     let closes = subst (λ k. Closes k last (g.I.Read.remaining c.take_bytes.new.input) (g.I.Read.remaining c.close.new.input)) c.in-InputEnd.is closes' in
@@ -71,13 +66,19 @@ returns-in-InputEnd g c =
       Consumes-trans _ _ _ bytes last taken closed,
       λ line is. record {
         item = put c.args.name.now bytes;
-        shows = c.put_item-item.ensures c.args.size bytes holds long;
+        shows = c.in-Ok-put_item.ensures c.args.size bytes holds long;
         whole = step_last c.args.number c.args.size line c.args.name.now bytes is long last _ _ (end_later _ _ _ bytes taken closes.1) closes.0;
       },
     )
 
-pub returns : goal.returns
-returns g c =
+pub returns-in-Err-put_item : goal.returns-in-Err-put_item
+returns-in-Err-put_item g c =
+    let (bytes, taken, is) = c.in_ok-put.ensures in
+    let (last, closed, closes) = c.in_ok-closing.ensures in
+    (bytes ++ last, Consumes-trans _ _ _ bytes last taken closed, λ line is. tt)
+
+pub returns-in-OtherByte : goal.returns-in-OtherByte
+returns-in-OtherByte g c =
     let (bytes, taken, (holds, counts, upto)) = c.in_ok-put.ensures in
     let (last, closed, closes') = c.in_ok-closing.ensures in
     let (b, is_byte, other) =

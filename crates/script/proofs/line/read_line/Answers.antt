@@ -2,7 +2,7 @@ use Rattle.std.proofs.Common.{◌≡◌, rules, codes}
 use Rattle.std.specs.Prelude.{option_map}
 use Rattle.script.specs.Fields.{fields_of}
 use Rattle.script.specs.Private.Cuts.{shown_fields}
-use Rattle.script.proofs.ReaderLemmas.{put_line_by_header, no_put_line, is_put_by_keyword}
+use Rattle.script.proofs.PutLemmas.{put_line_by_header, no_put_line, is_put_by_keyword}
 use Rattle.script.proofs.line.read_line.Goals as goal
 
 pub returns-in-Some : goal.returns-in-Some

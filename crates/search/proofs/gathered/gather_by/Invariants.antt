@@ -9,5 +9,5 @@ abbrev pub invariant-loop-document : goal.invariant-loop-document
 invariant-loop-document g l = record {
   so_far : GathersMore l.wanted (take l.document-index l.documents) l.initial.gathered l.gathered;
   way : Finds (form l.wanted.prepared.now.line.tree) l.way;
-  seeker : CanShow l.wanted.prepared.now l.seeker;
+  seeker : CanShow l.wanted l.seeker;
 }

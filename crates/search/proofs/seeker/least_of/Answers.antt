@@ -1,6 +1,6 @@
 use Rattle.std.proofs.Common.{◌+◌, ◌-◌, ◌/◌, arith}
 use Rattle.spans.specs.Passes.{NoSpanBegins, SomeSpanBegins}
-use Rattle.search.proofs.GathersLemmas.{case-true, case-false}
+use Rattle.search.proofs.SeekerLemmas.{case-true, case-false}
 use Rattle.search.proofs.SeekerLemmas.{halved_first, halved_low, halved_high, least_of}
 use Rattle.search.proofs.seeker.least_of.Goals as goal
 

@@ -1,6 +1,6 @@
 use Rattle.std.proofs.Common.{arith}
 use Rattle.spans.specs.Passes.{NoSpanBegins, SomeSpanBegins}
-use Rattle.search.proofs.GathersLemmas.{case-true, case-false}
+use Rattle.search.proofs.SeekerLemmas.{case-true, case-false}
 use Rattle.search.proofs.SeekerLemmas.{begin_behind, least_in_block, none_left}
 use Rattle.search.proofs.seeker.least_start.Goals as goal
 

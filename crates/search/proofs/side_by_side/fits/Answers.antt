@@ -13,4 +13,4 @@ pub returns-then-back : goal.returns-then-back
 returns-then-back c = λ t. absurd (false≢true t)
 
 pub returns : goal.returns
-returns c = λ t. inr (c.if-back.false, negated _ _ c.is_within.ensures t)
+returns c = λ t. inr (c.if-back.false, sym c.is_over.ensures ∙ negated _ _ refl t)

@@ -23,5 +23,5 @@ returns-clause-joins g c =
     let documents = c.args.documents.now in
     IfOk-weaker c.gather_part.result _ _ (λ joined is. λ own before.
     joins-for wanted c.left_of-limit.result (left_from wanted.limit c.args.before) documents joined
-    (subst (λ l. Joins (record { prepared = wanted.prepared; lines = wanted.lines; limit = c.left_of-limit.result }) l documents joined)
+    (subst (λ l. Joins (record { prepared = wanted.prepared; view = wanted.view; limit = c.left_of-limit.result }) l documents joined)
     c.left_of-limit.ensures (is own))) c.gather_part.ensures.joins

@@ -1,12 +1,8 @@
-use Rattle.std.proofs.Common.{◌++◌, ◌∷◌, [], ℕ, refl, ◌∙◌, ap}
+use Rattle.std.proofs.Common.{◌++◌, ◌∷◌, [], refl, ◌∙◌, ap}
 use Rattle.std.proofs.lemmas.List.{append-nil}
 use Rattle.views.specs.Parts.{text_of_parts}
-use Rattle.search.proofs.JoinLemmas.{joins-one, no-gap}
+use Rattle.search.proofs.JoinLemmas.{joins-one}
 use Rattle.search.proofs.side_by_side.gather_part.Goals as goal
-
-pub part_of-requires : goal.part_of-requires
-part_of-requires g c = λ lines.
-    ap (λ (p : ℕ × ℕ). p.0) c.without_gap-from.ensures ∙ no-gap c.args.wanted.now lines c.in_ok-gathered.gathered.rows
 
 pub returns-clause-joins : goal.returns-clause-joins
 returns-clause-joins g c = λ own.

@@ -1,26 +1,15 @@
-use Rattle.std.proofs.Common.{◌≡◌, ◌++◌, take, drop, refl, sym, ◌∙◌, ap}
-use Rattle.std.specs.Prelude.{if◌then◌else◌}
-use Rattle.search.specs.Private.Gathered.{text_held}
+use Rattle.std.proofs.Common.{◌≡◌, ◌++◌, length, drop, min, take, ap, ◌∙◌, arith}
+use Rattle.std.proofs.lemmas.List.{drop_min}
 use Rattle.views.specs.Text.{text_of_hits}
-use Rattle.views.proofs.PartLemmas.{text-joined}
+use Rattle.search.proofs.JoinLemmas.{part-whole}
 use Rattle.search.proofs.side_by_side.part_of.Goals as goal
-
-pub returns-then-not-wanted-clause-part : goal.returns-then-not-wanted-clause-part
-returns-then-not-wanted-clause-part g c =
-    let g = c.args.gathered in
-    let byte = c.args.wanted.now.prepared.now.zero in
-    c.text_part.ensures
-    ∙ ap (λ t. drop c.args.from t) (sym (ap (λ b. if b then text_of_hits byte g.hits else g.text.items) c.if-not-wanted.true))
 
 pub returns-clause-part : goal.returns-clause-part
 returns-clause-part g c =
-    let wanted = c.args.wanted.now in
-    let gathered = c.args.gathered in
-    let byte = wanted.prepared.now.zero in
-    let formed = c.in_ok-text.formed in
-    let text = c.in_ok-text.text.items in
-    let held : text_held wanted gathered ≡ text_of_hits byte gathered.hits =
-    ap (λ b. if b then text_of_hits byte gathered.hits else gathered.text.items) c.if-not-wanted.false in
-    text-joined byte gathered.hits formed text (text_of_hits byte (drop formed gathered.hits)) (text ++ text_of_hits byte (drop formed gathered.hits))
-    (c.in_ok-text.ensures.text.first ∙ ap (λ hits. text_of_hits byte (take formed hits)) c.lines.ensures) refl refl
-    ∙ (sym held ∙ ap (λ n. drop n (text_held wanted gathered)) (sym (c.requires c.if-not-wanted.false)))
+    let hits = c.args.gathered.hits in
+    let old = c.args.gathered.text.items in
+    let low : c.min-from.result ≡ min c.args.from (length old) = omega (arith, c.min-from.ensures, c.len.ensures, c.args.gathered.text.ok) in
+    part-whole c.args.zero hits c.in_ok-formed.formed c.args.from c.min-from.result old c.append_first.new.out.items
+    (omega (arith, low))
+    (ap (λ n. drop n old) low ∙ drop_min c.args.from old)
+    (c.in_ok-formed.ensures.text ∙ ap (λ hs. old ++ text_of_hits c.args.zero (take c.in_ok-formed.formed hs)) c.lines.ensures)

@@ -3,8 +3,8 @@ use Rattle.std.proofs.lemmas.List.{take_all}
 use Rattle.ere.specs.Tree.{cat, form, none, repeat, trees_of}
 use Rattle.spans.specs.Spans.{Spans, SpansEach}
 use Rattle.ere.proofs.Forms.{form-Empty, form-Set, form-Start, form-End, form-Cat, form-Alt, form-Repeat}
-use Rattle.simulation.specs.Parts.{nothing}
-use Rattle.simulation.specs.Parts.{set as one_of}
+use Rattle.simulation.specs.Nodes.{nothing}
+use Rattle.simulation.specs.Nodes.{set as one_of}
 use Rattle.simulation.proofs.Shapes.{shape-Set}
 use Rattle.simulation.proofs.Packing as packing
 use Rattle.simulation.specs.Private.Sequences.{GoesOn}
@@ -15,7 +15,7 @@ use Rattle.simulation.proofs.pack.+pack.Goals as goal
 
 pub pack-returns-in-Empty : goal.pack-returns-in-Empty
 pack-returns-in-Empty t c =
-    rw (ap form c.in-Empty.is ∙ form-Empty) (building.as_part _ nothing _ _ _ c.args.copies _ _ c.no_bytes.ensures.part (c.no_bytes.ensures.gaps ∙ c.everywhere.ensures) c.no_bytes.ensures.size (building.nothing_part _ _ c.args.copies packing.empty_packed))
+    rw (ap form c.in-Empty.is ∙ form-Empty) (building.as_part _ nothing _ _ _ c.args.copies _ _ c.no_bytes.ensures.node (c.no_bytes.ensures.gaps ∙ c.everywhere.ensures) c.no_bytes.ensures.size (building.nothing_part _ _ c.args.copies packing.empty_packed))
 
 pub pack-returns-in-Set : goal.pack-returns-in-Set
 pack-returns-in-Set t c =
@@ -24,11 +24,11 @@ pack-returns-in-Set t c =
 
 pub pack-returns-in-Start : goal.pack-returns-in-Start
 pack-returns-in-Start t c =
-    rw (ap form c.in-Start.is ∙ form-Start) (building.as_part _ nothing _ _ _ c.args.copies _ _ c.no_bytes-in-Start.ensures.part (c.no_bytes-in-Start.ensures.gaps ∙ c.only_at.ensures) c.no_bytes-in-Start.ensures.size (building.nothing_part _ _ c.args.copies packing.start_packed))
+    rw (ap form c.in-Start.is ∙ form-Start) (building.as_part _ nothing _ _ _ c.args.copies _ _ c.no_bytes-in-Start.ensures.node (c.no_bytes-in-Start.ensures.gaps ∙ c.only_at.ensures) c.no_bytes-in-Start.ensures.size (building.nothing_part _ _ c.args.copies packing.start_packed))
 
 pub pack-returns-in-End : goal.pack-returns-in-End
 pack-returns-in-End t c =
-    rw (ap form c.in-End.is ∙ form-End) (building.as_part _ nothing _ _ _ c.args.copies _ _ c.no_bytes-in-End.ensures.part (c.no_bytes-in-End.ensures.gaps ∙ c.only_at-in-End.ensures) c.no_bytes-in-End.ensures.size (building.nothing_part _ _ c.args.copies packing.end_packed))
+    rw (ap form c.in-End.is ∙ form-End) (building.as_part _ nothing _ _ _ c.args.copies _ _ c.no_bytes-in-End.ensures.node (c.no_bytes-in-End.ensures.gaps ∙ c.only_at-in-End.ensures) c.no_bytes-in-End.ensures.size (building.nothing_part _ _ c.args.copies packing.end_packed))
 
 pub pack-returns-in_ok-all-in-Cat : goal.pack-returns-in_ok-all-in-Cat
 pack-returns-in_ok-all-in-Cat t c =
@@ -134,7 +134,7 @@ then_turn-returns-then-needed t c =
 pub pack_some-loop-i-init : goal.pack_some-loop-i-init
 pack_some-loop-i-init t c =
     building.some_start c.args.members.now (length c.args.members.now) c.no_bytes-rest.result c.args.copies (omega arith)
-    c.no_bytes-rest.ensures.part (c.no_bytes-rest.ensures.gaps ∙ c.nowhere.ensures) c.no_bytes-rest.ensures.size
+    c.no_bytes-rest.ensures.node (c.no_bytes-rest.ensures.gaps ∙ c.nowhere.ensures) c.no_bytes-rest.ensures.size
 
 pub pack_some-loop-i-preserved : goal.pack_some-loop-i-preserved
 pack_some-loop-i-preserved t c =
@@ -144,14 +144,14 @@ pack_some-loop-i-preserved t c =
 pub pack_repeat-returns-then-most-least : goal.pack_repeat-returns-then-most-least
 pack_repeat-returns-then-most-least t c =
     rw c.in-Some.is
-    (building.as_part _ nothing _ _ _ c.args.copies _ _ c.no_bytes.ensures.part (c.no_bytes.ensures.gaps ∙ c.nowhere.ensures) c.no_bytes.ensures.size
+    (building.as_part _ nothing _ _ _ c.args.copies _ _ c.no_bytes.ensures.node (c.no_bytes.ensures.gaps ∙ c.nowhere.ensures) c.no_bytes.ensures.size
     (building.nothing_part _ _ c.args.copies (building.impossible_packed (form c.args.body.now) c.args.least c.in-Some.most c.if-most-least.true)))
 
 pub pack_repeat-returns-then-most-eq0 : goal.pack_repeat-returns-then-most-eq0
 pack_repeat-returns-then-most-eq0 t c =
     let zero_is : c.in-Some.most ≡ 0 = omega arith in
     rw (c.in-Some.is ∙ ap Some zero_is)
-    (building.as_part _ nothing _ _ _ c.args.copies _ _ c.no_bytes-then-most-eq0.ensures.part (c.no_bytes-then-most-eq0.ensures.gaps ∙ c.everywhere.ensures) c.no_bytes-then-most-eq0.ensures.size
+    (building.as_part _ nothing _ _ _ c.args.copies _ _ c.no_bytes-then-most-eq0.ensures.node (c.no_bytes-then-most-eq0.ensures.gaps ∙ c.everywhere.ensures) c.no_bytes-then-most-eq0.ensures.size
     (building.nothing_part _ _ c.args.copies (building.zero_packed (form c.args.body.now) c.args.least (omega arith))))
 
 pub pack_repeat-returns-then-most-eq1 : goal.pack_repeat-returns-then-most-eq1

@@ -3,7 +3,7 @@ use Rattle.std.proofs.lemmas.List.{take_all}
 use Rattle.std.proofs.lemmas.List.Folds.{list_all_at, list_all_more}
 use Rattle.std.specs.List.{list_all}
 use Rattle.simulation.specs.Packing.{everywhere, nowhere}
-use Rattle.simulation.specs.declared.run.Place.{Place}
+use Rattle.simulation.specs.declared.run.RowSet.{RowSet}
 use Rattle.simulation.proofs.run.gaps_of_row.Goals as goal
 
 pub loop-i-preserved : goal.loop-i-preserved
@@ -14,7 +14,7 @@ loop-i-preserved c =
 pub returns : goal.returns
 returns c =
     c.everywhere.ensures
-    ∙ ap (λ t. if t then everywhere else nowhere) (sym (ap (list_all (λ (place : Place). place.optional)) (sym (take_all c.loop-i.i c.args.row.now c.loop-i-test.false)) ∙ c.loop-i.invariant))
+    ∙ ap (λ t. if t then everywhere else nowhere) (sym (ap (list_all (λ (place : RowSet). place.optional)) (sym (take_all c.loop-i.i c.args.row.now c.loop-i-test.false)) ∙ c.loop-i.invariant))
 
 pub returns-then-not-row-i : goal.returns-then-not-row-i
 returns-then-not-row-i c =

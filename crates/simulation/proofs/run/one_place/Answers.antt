@@ -1,5 +1,5 @@
 use Rattle.std.proofs.Common.{ap, ◌∙◌}
-use Rattle.simulation.specs.Parts.{shape}
+use Rattle.simulation.specs.Nodes.{shape}
 use Rattle.simulation.proofs.Rows as rows
 use Rattle.simulation.proofs.Shapes.{shape-Set, shape-Loop}
 use Rattle.simulation.proofs.run.one_place.Goals as goal

@@ -1,5 +1,5 @@
 use Rattle.std.proofs.Common.{ap, ◌∙◌}
-use Rattle.simulation.specs.Parts.{shape}
+use Rattle.simulation.specs.Nodes.{shape}
 use Rattle.simulation.proofs.Shapes.{shape-Set}
 use Rattle.simulation.proofs.run.set_of.Goals as goal
 

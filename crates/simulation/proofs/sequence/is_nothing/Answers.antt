@@ -1,5 +1,5 @@
 use Rattle.std.proofs.Common.{ap, ◌∙◌}
-use Rattle.simulation.specs.Parts.{shape}
+use Rattle.simulation.specs.Nodes.{shape}
 use Rattle.simulation.proofs.Shapes.{shape-Nothing}
 use Rattle.simulation.proofs.sequence.is_nothing.Goals as goal
 

@@ -1,6 +1,6 @@
 use Rattle.std.proofs.Common.{◌+◌, refl, ap, ◌∙◌}
-use Rattle.simulation.specs.declared.part.Sizes.{Sizes}
-use Rattle.simulation.specs.Parts.{shape, both}
+use Rattle.simulation.specs.declared.node.Sizes.{Sizes}
+use Rattle.simulation.specs.Nodes.{shape, both}
 use Rattle.simulation.proofs.Shapes.{shape-Both}
 use Rattle.simulation.proofs.Building.{sum_is}
 use Rattle.simulation.proofs.Sequences as sequences
@@ -12,7 +12,7 @@ returns c =
     sequences.pair_holds c.args.first c.args.second _ sizes c.args.copies
     (shape-Both c.in_ok-left.left c.in_ok-right.right sizes c.args.first.gaps c.args.second.gaps
     ∙ ap (λ p. both (shape p) (shape c.in_ok-right.right.value) sizes c.args.first.gaps c.args.second.gaps) c.in_ok-left.ensures.ok
-    ∙ ap (λ p. both (shape c.args.first.part) (shape p) sizes c.args.first.gaps c.args.second.gaps) c.in_ok-right.ensures.ok)
+    ∙ ap (λ p. both (shape c.args.first.node) (shape p) sizes c.args.first.gaps c.args.second.gaps) c.in_ok-right.ensures.ok)
     c.both_gaps-gaps.ensures
     (sum_is _ _ _ _ c.in-Some-checked_add.is c.checked_add-2.ensures ∙ ap (λ n. c.words_for-own.result + n) (sum_is _ _ _ _ c.in-Some.is c.checked_add.ensures))
     c.words_for-own.ensures refl c.requires.first c.requires.second

@@ -7,7 +7,7 @@ use Rattle.simulation.proofs.sequence.settled.Goals as goal
 
 pub returns : goal.returns
 returns c =
-    let rest : Packed = record { part = c.in_ok-run_of.field-0; size = c.words_for.result; gaps = c.gaps_of_row.result } in
+    let rest : Packed = record { node = c.in_ok-run_of.field-0; size = c.words_for.result; gaps = c.gaps_of_row.result } in
     sequences.ok_as (λ packed. Holds (Then (WordsOf c.args.sequence.before) (WordsOf rest)) packed c.args.copies)
     (λ packed. Holds (WordsOfSequence c.args.sequence) packed c.args.copies)
     (λ packed holds.

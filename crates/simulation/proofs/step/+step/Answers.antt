@@ -1,5 +1,5 @@
 use Rattle.std.proofs.Common.{◌≡◌, ◌∙◌, ◌+◌, ap, subst, arith}
-use Rattle.simulation.specs.Parts.{shape}
+use Rattle.simulation.specs.Nodes.{shape}
 use Rattle.simulation.specs.Pending.{IsReady, rank}
 use Rattle.simulation.proofs.Shapes.{shape-Nothing, shape-Set, shape-Run, shape-Both, shape-Either, shape-Loop, shape-Times}
 use Rattle.simulation.proofs.Steps as steps
@@ -29,24 +29,24 @@ step-step_run-requires-clause-cells t c =
 
 pub step-step_both-requires : goal.step-step_both-requires
 step-step_both-requires t c =
-    let d : rank (shape c.args.part.now) ≡ t = omega arith in
+    let d : rank (shape c.args.node.now) ≡ t = omega arith in
     rw (c.deref-in-Both.ensures, c.deref-in-Both-2.ensures)
     (ranks.both_falls _ _ _ c.in-Both.sizes c.in-Both.before c.in-Both.after t (ap shape c.in-Both.is ∙ shape-Both c.in-Both.left c.in-Both.right c.in-Both.sizes c.in-Both.before c.in-Both.after) d, subst (λ s. IsReady c.args.line.now c.args.here s c.args.copies c.args.entered.now c.args.cells.now) (ap shape c.in-Both.is ∙ shape-Both c.in-Both.left c.in-Both.right c.in-Both.sizes c.in-Both.before c.in-Both.after) c.requires)
 
 pub step-step_either-requires : goal.step-step_either-requires
 step-step_either-requires t c =
-    let d : rank (shape c.args.part.now) ≡ t = omega arith in
+    let d : rank (shape c.args.node.now) ≡ t = omega arith in
     rw (c.deref-in-Either.ensures, c.deref-in-Either-2.ensures)
     (ranks.either_falls _ _ _ c.in-Either.sizes t (ap shape c.in-Either.is ∙ shape-Either c.in-Either.left c.in-Either.right c.in-Either.sizes) d, subst (λ s. IsReady c.args.line.now c.args.here s c.args.copies c.args.entered.now c.args.cells.now) (ap shape c.in-Either.is ∙ shape-Either c.in-Either.left c.in-Either.right c.in-Either.sizes) c.requires)
 
 pub step-step_loop-requires : goal.step-step_loop-requires
 step-step_loop-requires t c =
-    let d : rank (shape c.args.part.now) ≡ t = omega arith in
+    let d : rank (shape c.args.node.now) ≡ t = omega arith in
     rw c.deref-in-Loop.ensures (ranks.loop_falls _ _ c.in-Loop.own t (ap shape c.in-Loop.is ∙ shape-Loop c.in-Loop.body c.in-Loop.own) d, subst (λ s. IsReady c.args.line.now c.args.here s c.args.copies c.args.entered.now c.args.cells.now) (ap shape c.in-Loop.is ∙ shape-Loop c.in-Loop.body c.in-Loop.own) c.requires)
 
 pub step-step_times-requires : goal.step-step_times-requires
 step-step_times-requires t c =
-    let d : rank (shape c.args.part.now) ≡ t = omega arith in
+    let d : rank (shape c.args.node.now) ≡ t = omega arith in
     rw c.deref-in-Times.ensures (ranks.times_falls _ _ c.in-Times.counts t (ap shape c.in-Times.is ∙ shape-Times c.in-Times.body c.in-Times.counts) d, subst (λ s. IsReady c.args.line.now c.args.here s c.args.copies c.args.entered.now c.args.cells.now) (ap shape c.in-Times.is ∙ shape-Times c.in-Times.body c.in-Times.counts) c.requires)
 
 pub step-returns-in-Nothing : goal.step-returns-in-Nothing

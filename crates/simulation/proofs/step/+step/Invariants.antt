@@ -1,10 +1,10 @@
 use Rattle.std.proofs.Common.{◌+◌}
-use Rattle.simulation.specs.Parts.{shape}
+use Rattle.simulation.specs.Nodes.{shape}
 use Rattle.simulation.specs.Pending.{rank}
 use Rattle.simulation.proofs.step.+step.Given as goal
 
 abbrev pub decreases-step : goal.decreases-step
-decreases-step l = rank (shape l.part.now)
+decreases-step l = rank (shape l.node.now)
 
 abbrev pub decreases-step_both : goal.decreases-step_both
 decreases-step_both l = rank (shape l.left.now) + rank (shape l.right.now) + 1

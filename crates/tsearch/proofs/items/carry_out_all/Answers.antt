@@ -1,44 +1,57 @@
-use Rattle.std.proofs.Common.{ap, arith, length}
-use Rattle.script.specs.Items.{numbered}
-use Rattle.script.specs.Reading.{shown_item}
-use Rattle.tsearch.proofs.RunLemmas.{run_begins, run_goes_on, run_is_legal}
+use Rattle.std.proofs.Common.{arith}
+use Rattle.std.specs.Prelude.{true, false}
+use Rattle.tsearch.proofs.ServingLemmas.{serving_begins, stepped, cut_off, cut_here, done_at_end, on_err, on_ok_map}
 use Rattle.tsearch.proofs.items.carry_out_all.Goals as goal
 
-pub loop-item-init : goal.loop-item-init
-loop-item-init g c = record {
-  run =
-      rw (c.new-items.ensures, c.requires.first)
-      (run_begins (g.S.Source.holds c.args.source.now) c.args.plan.now.options c.args.plan.now.script.now (g.S.Source.failed c.args.source.now)
-      c.new-collected.result c.new-collected.ensures.0 c.new-collected.ensures.1);
-  few = omega (arith, ap (λ s. s.searches) c.requires.first, ap (λ p. length p.rest) c.new-items.ensures, c.requires.script);
+pub loop-init : goal.loop-init
+loop-init g c = record {
+  iterator = (tt, tt);
+  serving = serving_begins _ _ _ _ _ _ _ _ _ c.requires.first c.requires.inbox c.requires.read;
   held = λ path body. (λ h. h, λ h. h);
   counted = omega arith;
 }
 
-pub loop-item-preserved : goal.loop-item-preserved
-loop-item-preserved g c =
-    let old = c.loop-item.invariant in
-    let step = c.advance.ensures in
+pub loop-preserved : goal.loop-preserved
+loop-preserved g c =
+    let was = c.loop.invariant in
+    let step = c.in_ok-step.ensures in
     record {
-      run =
-          run_goes_on (g.S.Source.holds c.args.source.now) (g.S.Source.holds c.loop-item.source) old.held c.args.plan.now.options
-          c.args.plan.now.script.now (g.S.Source.failed c.args.source.now) c.loop-item.items c.loop-item.service c.loop-item.collected
-          (g.S.Source.failed c.loop-item.source) (numbered c.in-Some.item.line (shown_item c.in-Some.item.item)) c.next_item.new.self
-          c.advance.new.service c.advance.new.collected (g.S.Source.failed c.advance.new.source) old.run c.in-Some.ensures.item
-          c.in_ok-advance.ensures.taken;
-      few = omega (arith, old.few, step.few, c.in-Some.ensures.shorter);
-      held =
-          λ path body. (
-            λ h.
-                (old.held path body).0 ((step.same path body).0 h),
-            λ h. (step.same path body).1 ((old.held path body).1 h),
-          );
-      counted = omega (arith, old.counted, step.counted);
+      iterator = (tt, tt);
+      serving = stepped _ g.T.Sink.fails _ _ was.held _ _ _ _ _ was.serving true c.in_ok-step.field-0 c.if-not-branch.false _ _ step.ok;
+      held = λ path body. (λ h. (was.held path body).0 ((step.same path body).0 h), λ h. (step.same path body).1 ((was.held path body).1 h));
+      counted = omega (arith, was.counted, step.counted);
     }
 
-pub returns-clause-legal : goal.returns-clause-legal
-returns-clause-legal g c =
-    rw c.into_entries.ensures
-    (run_is_legal (g.S.Source.holds c.args.source.now) c.args.plan.now.options c.args.plan.now.script.now (g.S.Source.failed c.args.source.now)
-    c.loop-item.items c.loop-item.service c.loop-item.collected (g.S.Source.failed c.loop-item.source) c.settle.new.service c.settle.new.collected
-    c.loop-item.invariant.run c.in_default.ensures.item c.in_ok-settle.ensures.filled c.in_ok-settle.ensures.few_open)
+pub returns-in_err-step-clause-err : goal.returns-in_err-step-clause-err
+returns-in_err-step-clause-err g c =
+    let was = c.loop.invariant in on_err _ _ (cut_off _ _ _ _ was.held _ _ _ _ _ was.serving _ _ _ c.in_err-step.ensures.err)
+
+pub returns-in_err-step-clause-same : goal.returns-in_err-step-clause-same
+returns-in_err-step-clause-same g c = λ path body.
+    let was = c.loop.invariant.held path body in
+    let step = c.in_err-step.ensures.same path body in
+    (λ h. was.0 (step.0 h), λ h. step.1 (was.1 h))
+
+pub returns-in_err-step-clause-counted : goal.returns-in_err-step-clause-counted
+returns-in_err-step-clause-counted g c = omega (arith, c.loop.invariant.counted, c.in_err-step.ensures.counted)
+
+pub returns-then-not-branch-clause-ok : goal.returns-then-not-branch-clause-ok
+returns-then-not-branch-clause-ok g c =
+    let was = c.loop.invariant in
+    let over = stepped _ g.T.Sink.fails _ _ was.held _ _ _ _ _ was.serving false c.in_ok-step.field-0 c.if-not-branch.true _ _ c.in_ok-step.ensures.ok in
+    on_ok_map c.end_of_reading.result (λ ends. done_at_end _ _ _ _ _ _ _ over (ends over.3)) c.end_of_reading.ensures
+
+pub returns-then-not-branch-clause-err : goal.returns-then-not-branch-clause-err
+returns-then-not-branch-clause-err g c =
+    let was = c.loop.invariant in
+    let over = stepped _ g.T.Sink.fails _ _ was.held _ _ _ _ _ was.serving false c.in_ok-step.field-0 c.if-not-branch.true _ _ c.in_ok-step.ensures.ok in
+    on_err c.end_of_reading.result _ (cut_here _ _ _ _ _ _ _ over.0 _)
+
+pub returns-then-not-branch-clause-same : goal.returns-then-not-branch-clause-same
+returns-then-not-branch-clause-same g c = λ path body.
+    let was = c.loop.invariant.held path body in
+    let step = c.in_ok-step.ensures.same path body in
+    (λ h. was.0 (step.0 h), λ h. step.1 (was.1 h))
+
+pub returns-then-not-branch-clause-counted : goal.returns-then-not-branch-clause-counted
+returns-then-not-branch-clause-counted g c = omega (arith, c.loop.invariant.counted, c.in_ok-step.ensures.counted)

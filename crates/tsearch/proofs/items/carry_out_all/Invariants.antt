@@ -1,17 +1,15 @@
-use Rattle.std.proofs.Common.{◌≤◌, ◌+◌, ℕ, List, length}
-use Rattle.tsearch.proofs.RunLemmas.{IsRun}
+use Rattle.std.proofs.Common.{◌≤◌, ℕ, List}
+use Rattle.tsearch.specs.Private.Running.{now, start_at}
+use Rattle.tsearch.specs.Private.Serving.{IsServing}
 use Rattle.tsearch.proofs.items.carry_out_all.Given as goal
 
-abbrev pub invariant-loop-item : goal.invariant-loop-item
-invariant-loop-item g l = record {
-  run : IsRun (g.S.Source.holds l.initial.source) l.plan.options l.plan.script.now (g.S.Source.failed l.initial.source) l.items l.service
-      l.collected (g.S.Source.failed l.source);
-  few : l.service.searches + length l.items.rest ≤ 67108864;
+abbrev pub invariant-loop : goal.invariant-loop
+invariant-loop g l = record {
+  iterator : (goal.iterator-loop g).can_next l.iterator' × (goal.iterator-loop g).is_finite l.iterator';
+  serving : IsServing g.T.Sink.does (g.S.Source.holds l.fn.source) l.plan.readers g.K.Naming.input
+      (start_at l.fn.service.limits (g.S.Source.failed l.fn.source) l.fn.sink l.fn.out) l.inbox (now l.service (g.S.Source.failed l.source) l.sink l.out);
   held : (path body : List ℕ)
-      → (g.S.Source.holds l.source path body → g.S.Source.holds l.initial.source path body)
-      × (g.S.Source.holds l.initial.source path body → g.S.Source.holds l.source path body);
-  counted : g.S.Source.failed l.initial.source ≤ g.S.Source.failed l.source;
+      → (g.S.Source.holds l.source path body → g.S.Source.holds l.fn.source path body)
+      × (g.S.Source.holds l.fn.source path body → g.S.Source.holds l.source path body);
+  counted : g.S.Source.failed l.fn.source ≤ g.S.Source.failed l.source;
 }
-
-abbrev pub decreases-loop-item : goal.decreases-loop-item
-decreases-loop-item g l = length l.items.rest

@@ -1,11 +1,12 @@
-use Rattle.tsearch.specs.Private.Running.{none, one_more}
+use Rattle.tsearch.specs.Private.Running.{one}
+use Rattle.tsearch.proofs.ServingLemmas.{on_ok_map, on_err_map}
 use Rattle.tsearch.proofs.items.hand_out.Goals as goal
 
-pub returns-in_default-clause-filled : goal.returns-in_default-clause-filled
-returns-in_default-clause-filled g c = none
+pub returns-in-Some-answer_here-clause-ok : goal.returns-in-Some-answer_here-clause-ok
+returns-in-Some-answer_here-clause-ok g c =
+    on_ok_map c.note.result (λ does. one c.in-Some-answer_here.entry c.in-Some-answer_here.ensures.some does) c.note.ensures.ok
 
-pub returns-in-Some-answer_here-clause-filled : goal.returns-in-Some-answer_here-clause-filled
-returns-in-Some-answer_here-clause-filled g c = one_more none c.in-Some-answer_here.entry c.in-Some-answer_here.ensures.some c.fill.ensures
-
-pub returns-clause-filled : goal.returns-clause-filled
-returns-clause-filled g c = rw c.in_default-answer_here.ensures.none none
+pub returns-in-Some-answer_here-clause-err : goal.returns-in-Some-answer_here-clause-err
+returns-in-Some-answer_here-clause-err g c =
+    on_err_map c.note.result
+    (λ fails. record { entry = c.in-Some-answer_here.entry; gives = c.in-Some-answer_here.ensures.some; fails = fails }) c.note.ensures.err

@@ -1,4 +1,4 @@
-use Rattle.std.proofs.Common.{ap, sym, ◌∙◌}
+use Rattle.std.proofs.Common.{ap, ◌∙◌}
 use Rattle.input.proofs.FeedLemmas.{read_nothing}
 use Rattle.input.proofs.fronts.Opened.named.Goals as goal
 

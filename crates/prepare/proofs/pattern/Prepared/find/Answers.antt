@@ -1,6 +1,9 @@
-use Rattle.std.proofs.Common.{refl}
+use Rattle.std.proofs.Common.{refl, ap}
 use Rattle.std.proofs.lemmas.Result.{err_from_is_err_and}
-use Rattle.prepare.proofs.RequestLemmas.{have_trees}
+use Rattle.ere.specs.Tree.{form}
+use Rattle.request.specs.Shown.{shown_options}
+use Rattle.prepare.specs.Pattern.{Test}
+use Rattle.prepare.proofs.RequestLemmas.{have_trees, word_inside}
 use Rattle.prepare.proofs.pattern.Prepared.find.Goals as goal
 
 pub returns-in-Ok-clause-request : goal.returns-in-Ok-clause-request
@@ -11,7 +14,9 @@ returns-in-Ok-clause-request c =
       is_tree = of.1;
       line = of.2;
       names = c.in_ok-names.ensures.tests;
-      word = of.3;
+      word =
+          word_inside (shown_options c.args.find.now.options) c.asks_for_words.result (form c.in-Ok.line.tree) of.0 c.asks_for_words.ensures
+          (ap (λ (t : Test). t.tree) of.2);
       view = refl;
       limit = refl;
       zero = refl;

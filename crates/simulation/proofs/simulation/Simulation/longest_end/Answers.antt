@@ -1,5 +1,5 @@
 use Rattle.std.proofs.Common.{◌+◌, MatchOption, subst, refl, arith}
-use Rattle.simulation.specs.Parts.{shape}
+use Rattle.simulation.specs.Nodes.{shape}
 use Rattle.simulation.specs.Private.Reading.{HasWanted, IsLastEnd}
 use Rattle.simulation.proofs.Matches as matches
 use Rattle.simulation.proofs.simulation.Simulation.longest_end.Goals as goal
@@ -9,7 +9,7 @@ returns-then-start-line-clause-found c = λ tree is. matches.none_at_end c.args.
 
 pub returns-clause-found : goal.returns-clause-found
 returns-clause-found c = λ tree is.
-    matches.found_end c.args.line.now tree (shape c.args.self.now.part) c.args.self.now.gaps c.args.self.now.at_start c.last_end.result c.args.whole_words
-    c.args.start (c.args.start + 1) _ is.part.packed is.at_start refl refl
-    (subst (λ w. MatchOption c.last_end.result (HasWanted c.args.line.now (shape c.args.self.now.part) w → ⊥) (IsLastEnd c.args.line.now (shape c.args.self.now.part) w))
+    matches.found_end c.args.line.now tree (shape c.args.self.now.node) c.args.self.now.gaps c.args.self.now.at_start c.last_end.result c.args.whole_words
+    c.args.start (c.args.start + 1) _ is.node.packed is.at_start refl refl
+    (subst (λ w. MatchOption c.last_end.result (HasWanted c.args.line.now (shape c.args.self.now.node) w → ⊥) (IsLastEnd c.args.line.now (shape c.args.self.now.node) w))
     c.wanted-only.ensures c.last_end.ensures)

@@ -1,2 +1,0 @@
--- What only the contracts of private functions cite. A clause can cite only `pub` modules.
-pub mod Serving

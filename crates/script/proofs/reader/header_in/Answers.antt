@@ -1,4 +1,0 @@
-use Rattle.script.proofs.reader.header_in.Goals as goal
-
-pub returns-in-Some : goal.returns-in-Some
-returns-in-Some c = rw c.in-Some.is c.put_header.ensures
