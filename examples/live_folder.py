@@ -3,8 +3,8 @@
 
 Usage: examples/live_folder.py [FOLDER]     TSEARCH is the path of the program, if it is not next to examples/
 
-Before each answer it looks through the folder, and names what it leaves out, and why. In a git repository it takes the files that
-git tracks or does not ignore, and elsewhere all but what is named .git. It skips symbolic links. An empty line ends it.
+Before each answer it looks through the folder, and names what it leaves out, and why. It takes what git tracks, and
+what no .gitignore (in a repository), .ignore or .rgignore names. It skips symbolic links and .git. An empty line ends it.
 clients/python/README.md has more clients, and the library that this one uses.
 """
 
@@ -15,8 +15,13 @@ sys.path.insert(0, os.path.join(os.path.dirname(os.path.abspath(__file__)), ".."
 import tsearch  # noqa: E402
 
 if __name__ == "__main__":
+    top = sys.argv[1] if len(sys.argv) > 1 else "."
+    if top in ("-h", "--help"):
+        sys.exit(print(__doc__))
+    if not os.path.isdir(top):
+        sys.exit(f"{top} is no folder")
     with tsearch.Session(messages=lambda text: os.write(2, text)) as session:
-        folder = tsearch.Folder(session, sys.argv[1] if len(sys.argv) > 1 else ".")
+        folder = tsearch.Folder(session, top)
         while os.write(1, b"> ") and (typed := sys.stdin.buffer.readline().rstrip(b"\n")):
             rows = [b"left out: %s: %s\n" % (name, reason.encode()) for name, reason in folder.refresh().left_out]
             try:

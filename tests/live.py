@@ -556,11 +556,8 @@ def client_of_a_folder():
             ask(b"^[a-z]*$", [b"a.txt:1:fell\n", b"%s:1:tell\n" % name.encode()])
             client.end(0)
         missing = str(top / "missing")
-        with Session(missing, program=[sys.executable, str(CLIENT)]) as client:
-            same("what is shown first", read_to_prompt(client), b"")
-            client.send(b"x\n")
-            same("the answer", read_to_prompt(client), b"left out: %s: No such file or directory\n" % missing.encode())
-            client.end(0)
+        ended = subprocess.run([sys.executable, str(CLIENT), missing], stdin=subprocess.DEVNULL, capture_output=True, timeout=60)
+        same("a folder that is not there", (ended.returncode, ended.stdout, ended.stderr), (1, b"", b"%s is no folder\n" % missing.encode()))
 
 
 WITH_EACH = [

@@ -337,7 +337,10 @@ def typed_and_written(command, lines):
 def compare_command(folder, command, lines):
     typed, written = typed_and_written(command, lines)
     wanted = (written.encode(), b"")
-    env = {name: value for name, value in os.environ.items() if name != "TSEARCH"}
+    # a server that a command starts ends with the folder
+    runtime = pathlib.Path(folder, "runtime")
+    runtime.mkdir(mode=0o700, exist_ok=True)
+    env = {name: value for name, value in os.environ.items() if name != "TSEARCH"} | {"XDG_RUNTIME_DIR": str(runtime)}
     _, *got = run(["bash", "-c", command], folder, typed.encode(), env)
     if tuple(got) != wanted:
         raise Wrong(f"{command!r} writes {got}, and should write {wanted}")
@@ -345,13 +348,14 @@ def compare_command(folder, command, lines):
 
 def compare_readme(base):
     shown = list(commands_shown(base.with_name("README.md").read_text()))
-    for way in ("| ./tsearch", "./tsearch --live", "python3 -m tsearch ", "examples/live_folder.py"):
+    for way in ("| ./tsearch", "./tsearch --live", "./tgrep ", "examples/live_folder.py"):
         if not any(way in command for command, _ in shown):
             raise Wrong(f"no command has {way!r}")
     with tempfile.TemporaryDirectory() as folder:
         copy = pathlib.Path(folder)
         shutil.copytree(EXAMPLES, copy / "examples")
         shutil.copytree(CLIENTS, copy / "clients", ignore=shutil.ignore_patterns("__pycache__"))
+        shutil.copy(TOP / "tgrep", copy)
         write_command(copy / "tsearch", f'#!/bin/sh\nexec "{PROGRAM}" "$@"\n')
         for command, lines in shown:
             compare_command(folder, command, lines)

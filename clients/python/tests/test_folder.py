@@ -96,7 +96,7 @@ class Folders(unittest.TestCase):
 
             def state_now(name: bytes, now: int = now) -> object:
                 state = read_state(name)
-                fields = {field: getattr(state, field) for field in ("st_mode", "st_size", "st_ino")}
+                fields = {field: getattr(state, field) for field in ("st_mode", "st_size", "st_ino", "st_nlink")}
                 return types.SimpleNamespace(st_mtime_ns=now, st_ctime_ns=now, **fields)
 
             with unittest.mock.patch("tsearch.listing.os.lstat", state_now):

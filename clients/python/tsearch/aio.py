@@ -83,12 +83,12 @@ class _Connection:
         await self._drain()
         return sent
 
-    async def begin(self, query: Query) -> Search:
+    async def begin(self, query: Query, take: Callable[[bytes], object] | None = None) -> Search:
         """Sends a search once it has its turn, which lasts until its entry."""
         await self._turns.acquire()
         try:
             self._check_alive()
-            sent, parts = self.core.find(query)
+            sent, parts = self.core.find(query, take)
         except BaseException:
             self._turns.release()
             raise
@@ -383,6 +383,16 @@ class Session(Changes):
                 return answer
         raise Error("the documents change too often for two searches")
 
+    async def pass_on(self, query: Query, take: Callable[[bytes], object]) -> Answer:
+        """Makes a search, and calls `take` with each piece of its rows as the program writes it. The answer that is given back has no
+        rows. The errors are those of `find`. A query of which `parts` makes two searches is none for this."""
+        search = await self._connection.begin(query, take)
+        try:
+            return await search
+        except BaseException:
+            search.cancel()
+            raise
+
     def cancel(self, search: Search) -> None:
         """Gives up a search, as its own `cancel` does."""
         search.cancel()
@@ -454,6 +464,8 @@ class Folder:
     """Keeps the text files of a folder in a session or a cluster, as `tsearch.Folder` does. A thread reads the files.
 
     before_change: is awaited with the name of each document that is there and is about to be replaced or removed.
+    follows: whether symbolic links are followed.
+    loads: whether the program reads the files of a first look, which must be on its machine; not for a cluster.
     """
 
     def __init__(
@@ -465,9 +477,13 @@ class Folder:
         git: bool | None = None,
         progress: Progress | None = None,
         before_change: Callable[[bytes], Awaitable[object]] | None = None,
+        follows: bool = False,
+        loads: bool = False,
     ) -> None:
         self._session = session
-        self._files = Files(root, prefix, git)
+        self._files = Files(root, prefix, git, follows)
+        self._loads = loads
+        self._is_first = True
         self._progress = progress or (lambda done, of: None)
         self._before_change = before_change
         self._lock = asyncio.Lock()
@@ -483,10 +499,16 @@ class Folder:
         """What is not in the session now, by its path from the top of the folder, with the reason."""
         return dict(self._files.left_out)
 
-    async def refresh(self) -> Refreshed:
-        """Looks through the folder, sends what has changed, and publishes it, as `tsearch.Folder.refresh` does, with its errors."""
+    @property
+    def files(self) -> Files:
+        """What the session has of the folder."""
+        return self._files
+
+    async def refresh(self, changed: set[bytes] | None = None) -> Refreshed:
+        """Looks through the folder, sends what has changed, and publishes it, as `tsearch.Folder.refresh` does, with its errors. With
+        `changed` it looks at these paths alone: no others have changed since the last look."""
         async with self._lock:
-            put, removed = await self._send(self._session, self._before_change)
+            put, removed = await self._send(self._session, self._before_change, changed)
             published = None
             if put or removed or self._is_pending:
                 published = await self._session.publish()
@@ -513,18 +535,26 @@ class Folder:
 
     async def _feed(self, changes: Changes) -> None:
         self._files.forget()
-        await self._send(changes, None)
+        self._is_first = True
+        await self._send(changes, None, None)
 
-    async def _send(self, changes: Changes | Cluster, before_change: Callable[[bytes], Awaitable[object]] | None) -> tuple[int, int]:
+    async def _send(
+        self, changes: Changes | Cluster, before_change: Callable[[bytes], Awaitable[object]] | None, changed: set[bytes] | None
+    ) -> tuple[int, int]:
         put = removed = 0
-        steps, held = self._files.steps(), frozenset(self._files.held)
+        files, held = self._files, frozenset(self._files.held)
+        steps = files.first_steps() if self._is_first and self._loads else files.steps() if changed is None else files.steps_of(changed)
+        self._is_first = False
         while batch := await asyncio.to_thread(_some_of, steps):
-            for name, body, done, of in batch:
+            for name, body, done, of, path in batch:
                 self._is_pending = True
                 self._progress(done, of)
                 if before_change and name.removeprefix(self._files.prefix) in held:
                     await before_change(name)
-                if body is None:
+                if path is not None and isinstance(changes, Changes):
+                    await changes.load(name, path)
+                    put += 1
+                elif body is None:
                     await changes.remove(name)
                     removed += 1
                 else:

@@ -53,7 +53,7 @@ class Sent:
         self.is_of_publish = False
         self.is_settled = False
         self.value: object = None
-        self.error: Error | None = None
+        self.error: Exception | None = None
         self.on_settled: Callable[[Sent], None] | None = None
 
     def refusal(self, reason: str) -> Refused:
@@ -64,14 +64,18 @@ class Sent:
 class SentSearch(Sent):
     """A search that was sent."""
 
-    __slots__ = ("number", "query", "is_wanted")
+    __slots__ = ("number", "query", "take", "is_wanted", "fault")
 
-    def __init__(self, line: int, number: int, query: Query) -> None:
+    def __init__(self, line: int, number: int, query: Query, take: Callable[[bytes], object] | None) -> None:
         super().__init__(line)
         self.number = number
         self.query = query
-        # not once it is cancelled: then its answer is passed over
+        # what the rows are handed to as they come; the answer then has none
+        self.take = take
+        # not once it is cancelled, or `take` has failed: then its answer is passed over
         self.is_wanted = True
+        # what `take` has raised
+        self.fault: Exception | None = None
 
 
 @dataclass
@@ -141,11 +145,12 @@ class Core:
         """A status."""
         return self._item(None, [b"status\n"])
 
-    def find(self, query: Query) -> tuple[SentSearch, list[bytes]]:
-        """A search. `PatternRefused` at once for what cannot be sent as a pattern."""
+    def find(self, query: Query, take: Callable[[bytes], object] | None = None) -> tuple[SentSearch, list[bytes]]:
+        """A search. `PatternRefused` at once for what cannot be sent as a pattern. `take` is called with each piece of the answer's
+        rows as it comes, from anywhere in a row to anywhere; what it raises is the search's error."""
         item = query.item()
         self._searches += 1
-        search = SentSearch(self._next_line, self._searches, query)
+        search = SentSearch(self._next_line, self._searches, query, take)
         self._next_line += 1
         self._open[search.number] = search
         return search, [item]
@@ -199,7 +204,7 @@ class Core:
         settled, self._settled = self._settled, []
         return settled
 
-    def _settle(self, sent: Sent, value: object = None, error: Error | None = None) -> None:
+    def _settle(self, sent: Sent, value: object = None, error: Exception | None = None) -> None:
         sent.is_settled, sent.value, sent.error = True, value, error
         self._settled.append(sent)
 
@@ -263,7 +268,10 @@ class Core:
         count = data.count(b"\n", at)
         end = len(data) if count < coming.left else after_line(data, at, coming.left)
         if coming.search.is_wanted:
-            coming.parts.append(data[at:end])
+            try:
+                (coming.search.take or coming.parts.append)(data[at:end])
+            except Exception as error:  # it is for who made the search, and others go on
+                coming.search.is_wanted, coming.search.fault = False, error
         coming.left -= min(count, coming.left)
         self._end_answer(coming)
         return end
@@ -275,7 +283,7 @@ class Core:
         if coming.search.is_wanted:
             self._settle(coming.search, coming.answer(b"".join(coming.parts)))
         else:
-            self._settle(coming.search, error=Cancelled("cancelled"))
+            self._settle(coming.search, error=coming.search.fault or Cancelled("cancelled"))
 
 
 def after_line(data: bytes, at: int, lines: int) -> int:

@@ -7,30 +7,34 @@ import os
 import stat
 import threading
 import time
-from collections.abc import Callable, Iterator
+from collections.abc import Callable, Iterable, Iterator
 from typing import NamedTuple, Unpack
 
 from . import names
 from .answers import Answer, Published
 from .errors import ChangeRefused
-from .listing import File, Listing, Stamp, is_in_repository, list_by_git, list_by_walk
+from .listing import File, Lister, Listing, Stamp
 from .query import Options
 from .session import Changes, Session
 
 # The limits of a document, in bytes (docs/SCRIPT.md, "The limits").
 MAX_BODY = 1_048_576
 MAX_LINE = 16_384
+# What the program calls a file that can be no document, and what this package does.
+_CALLED = {"byte 0 in body": "binary", "cannot load": "cannot be read"}
 # In nanoseconds. A file that changes twice within a tick of the clock of its times may have the same ones both times.
 _TICK = 100_000_000
 
 
 class Step(NamedTuple):
-    """A document to put, or to remove if there is no body; how many such steps have come before, and how many there are at most."""
+    """A document to put, or to remove if there is no body; how many such steps have come before, and how many there are at most. With a
+    path the program is to load the document from there."""
 
     name: bytes
     body: bytes | None
     done: int
     of: int
+    path: bytes | None = None
 
 
 class LeftOut(NamedTuple):
@@ -59,12 +63,16 @@ class Files:
     Documents are named by a prefix and the path from the top of the folder.
     """
 
-    def __init__(self, root: str | bytes | os.PathLike[str] | os.PathLike[bytes], prefix: str | bytes, git: bool | None) -> None:
+    def __init__(
+        self, root: str | bytes | os.PathLike[str] | os.PathLike[bytes], prefix: str | bytes = b"", git: bool | None = None, follows: bool = False
+    ) -> None:
         self.root = os.path.abspath(os.fsencode(root))
         self.prefix = names.to_bytes(prefix)
-        self.uses_git = is_in_repository(self.root) if git is None else git
+        self._lister = Lister(self.root, git is not False, follows)
         self.left_out: dict[bytes, str] = {}
         self.held: set[bytes] = set()
+        # those of them that a session writes in another way
+        self.quoted: set[bytes] = set()
         self._known: dict[bytes, Stamp] = {}
         # of files that had changed so lately that their stamps may not tell the next change: a digest of what was read
         self._recent: dict[bytes, bytes] = {}
@@ -73,21 +81,65 @@ class Files:
     def forget(self) -> None:
         """A new program has nothing of the folder."""
         self.held.clear()
+        self.quoted.clear()
         self._known.clear()
         self._recent.clear()
 
     def steps(self) -> Iterator[Step]:
         """Looks through the folder, and gives what makes the session's documents those of the folder, to be sent in this order."""
-        listing = self._list()
+        listing = self._lister.list()
         self._name_faults(listing)
-        gone = sorted(self._known.keys() - listing.files.keys())
+        yield from self._steps(listing, self._known.keys() - listing.files.keys())
+
+    def first_steps(self) -> Iterator[Step]:
+        """The same for a session without documents, which loads all files itself that it can: it alone reads them."""
+        began = time.time_ns()
+        listing = self._lister.list()
+        self._name_faults(listing)
+        for at, name in enumerate(sorted(listing.files)):
+            file = listing.files[name]
+            if file.stamp.size > MAX_BODY or not _is_text(file.path) or len(names.quote(self.prefix + name)) > names.MAX_NAME:
+                for body in self._look_at(name, file):
+                    yield Step(self.prefix + name, body, at, len(listing.files))
+                continue
+            self._hold(name)
+            self._known[name] = file.stamp
+            if max(file.stamp.modified, file.stamp.changed) > began - _TICK:
+                self._recent[name] = b""  # it is read again, whatever its stamp is then
+            yield Step(self.prefix + name, None, at, len(listing.files), file.path)
+
+    @property
+    def has_unwatched(self) -> bool:
+        """Whether the folder has some in it that watchman does not look into."""
+        return self._lister.has_unwatched
+
+    def changed_links(self) -> set[bytes]:
+        """Files that have changed of those whose bytes have another name too: a change through that one is told of nowhere."""
+        linked = self._lister.linked & self._known.keys()
+        return {name for name in linked if self._lister.stamp_at(name) != self._known[name]}
+
+    def needs_look(self, changed: set[bytes]) -> bool:
+        """Whether `steps_of` may have steps."""
+        return bool(changed) or self._lister.has_news()
+
+    def steps_of(self, changed: set[bytes]) -> Iterator[Step]:
+        """The same for files that may have changed, while the caller knows that no others have. All have been looked at before."""
+        news = self._lister.news(changed)
+        if news is None:
+            yield from self.steps()
+            return
+        found = {name: file for name in news if (file := self._lister.file_at(name)) is not None}
+        yield from self._steps(Listing(found, {}), news & self._known.keys() - found.keys())
+
+    def _steps(self, listing: Listing, lost: Iterable[bytes]) -> Iterator[Step]:
+        gone = sorted(lost)
         changed = [name for name in sorted(listing.files) if name in self._recent or self._known.get(name) != listing.files[name].stamp]
         for at, name in enumerate(gone):
             self._known.pop(name)
             self._recent.pop(name, None)
             self.left_out.pop(name, None)
             if name in self.held:
-                self.held.discard(name)
+                self._drop(name)
                 yield Step(self.prefix + name, None, at, len(gone) + len(changed))
         for at, name in enumerate(changed, len(gone)):
             for body in self._look_at(name, listing.files[name]):
@@ -99,24 +151,42 @@ class Files:
         for refusal in refused:
             name = refusal.name.removeprefix(self.prefix)
             if refusal.name.startswith(self.prefix) and name in self.held:
-                self.held.discard(name)
-                self._leave_out(name, refusal.reason)
+                self._drop(name)
+                self._recent.pop(name, None)
+                if refusal.reason == "cannot load":
+                    self._known.pop(name)  # it is tried again
+                self._leave_out(name, _CALLED.get(refusal.reason, refusal.reason))
                 stale.append(refusal.name)
         return stale
+
+    def has_folder(self, name: bytes) -> bool:
+        """Whether no rule names a folder, nor one above it; its path from the top has no slash at the end."""
+        return self._lister.has_folder(name)
+
+    @property
+    def sizes(self) -> dict[bytes, int]:
+        """The lengths of the files that were looked at, those that are left out too, in bytes."""
+        return {name: stamp.size for name, stamp in self._known.items()}
 
     def take_news(self) -> list[LeftOut]:
         """What is left out and was not given before."""
         news, self._news = self._news, []
         return news
 
-    def _list(self) -> Listing:
-        return list_by_git(self.root) if self.uses_git else list_by_walk(self.root)
-
     def _name_faults(self, listing: Listing) -> None:
         for name in self.left_out.keys() - listing.files.keys() - listing.faults.keys():
             del self.left_out[name]
         for name, reason in listing.faults.items():
             self._leave_out(name, reason)
+
+    def _hold(self, name: bytes) -> None:
+        self.held.add(name)
+        if names.quote(name) != name:
+            self.quoted.add(name)
+
+    def _drop(self, name: bytes) -> None:
+        self.held.discard(name)
+        self.quoted.discard(name)
 
     def _leave_out(self, name: bytes, reason: str) -> None:
         if self.left_out.get(name) != reason:
@@ -145,15 +215,24 @@ class Files:
             self._recent[name] = now
         self._known[name] = file.stamp
         if before != now or name not in self.held:
-            self.held.add(name)
+            self._hold(name)
             yield body
 
     def _without(self, name: bytes, reason: str) -> Iterator[None]:
         self._recent.pop(name, None)
         self._leave_out(name, reason)
         if name in self.held:
-            self.held.discard(name)
+            self._drop(name)
             yield None
+
+
+def _is_text(path: bytes) -> bool:
+    """Whether the path can be that of a load."""
+    try:
+        path.decode()
+    except UnicodeDecodeError:
+        return False
+    return b"\n" not in path
 
 
 def _body_of(file: File) -> bytes:
@@ -183,14 +262,14 @@ class Folder:
             folder.refresh()
             print(folder.find("o w").hits())
 
-    In a git repository the files are those that git tracks or does not ignore; elsewhere they are all files but what is named .git.
-    Symbolic links are left out, and so is each file that cannot be a document: a binary one (with a byte 0), one of over a mebibyte,
+    The files are those that git tracks, and all that no .gitignore (in a repository), .ignore or .rgignore names; what is named .git is
+    none. Symbolic links are left out, and so is each file that cannot be a document: a binary one (with a byte 0), one of over a mebibyte,
     one with a line of over 16,384 bytes, and one whose quoted name is over 255 bytes.
 
     session: the session. Others may share it, and other folders with other prefixes.
     root: the folder. Its path is made absolute now.
     prefix: what the names of its documents begin with, before their paths from the top of the folder.
-    git: whether git lists the files; by default it does if the folder is in a repository, and not ignored there.
+    git: False to take the files that rules name, too.
     progress: is called with the number of changed files that are sent, and of all changed files, from 0 to the whole.
 
     Threads can share a folder; one at a time looks through it.
@@ -262,7 +341,7 @@ class Folder:
 
     def _send(self, changes: Changes) -> tuple[int, int]:
         put = removed = 0
-        for name, body, done, of in self._files.steps():
+        for name, body, done, of, _ in self._files.steps():
             self._is_pending = True
             self._progress(done, of)
             if body is None:

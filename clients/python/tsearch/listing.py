@@ -1,15 +1,21 @@
-"""Which files a folder has: those that git does not ignore where there is a repository, and otherwise all."""
+"""Which files a folder has: those that the rules of .gitignore (in a repository), .ignore and .rgignore do not name, and those that
+git tracks all the same; nothing that is named .git."""
 
 from __future__ import annotations
 
 import os
 import stat
-import subprocess
+from collections.abc import Iterator
 from typing import NamedTuple
 
-# In seconds: git goes through the whole folder.
-_GIT_TIME = 300
+from .ignored import GIT, RULE_FILES, Chain, rules_at
+from .repository import Repository, Unknown, repository_above, repository_at, rules_of, rules_of_user, settings_of_user, tracked
+
 _GIT_FOLDER = b".git"
+# What is below such folders watchman does not tell, by its default.
+_UNWATCHED = {b".svn", b".hg"}
+_NOT_THERE = (FileNotFoundError, NotADirectoryError)
+_NO_INDEX = "files that git tracks though rules name them are left out: the index is of a kind that is not known"
 
 
 class Stamp(NamedTuple):
@@ -35,76 +41,245 @@ class Listing(NamedTuple):
     faults: dict[bytes, str]
 
 
-def is_in_repository(root: bytes) -> bool:
-    """Whether git lists this folder: it is in a repository, and not among what that ignores. False too if there is no git, or it does
-    not answer in 300 seconds."""
-    if _git(root, b"rev-parse", b"--is-inside-work-tree").stdout.strip() != b"true":
+class Lister:
+    """Lists the files below a folder.
+
+    root: its absolute path.
+    uses_rules: whether rules hold. Those of .gitignore hold where the folder is in a repository and is not ignored there itself.
+    follows: whether symbolic links are followed; otherwise they are left out.
+    """
+
+    def __init__(self, root: bytes, uses_rules: bool = True, follows: bool = False) -> None:
+        self.root = root
+        self._begin = root.rstrip(b"/") + b"/"
+        self._uses_rules = uses_rules
+        self._follows = follows
+        self._chains: dict[bytes, Chain] = {}
+        self._repositories: dict[bytes, Repository] = {}
+        self._tracked: dict[bytes, set[bytes]] = {}
+        self._stamps: dict[bytes, Stamp | None] = {}
+        # those of the files whose bytes have another name too, through which they may change
+        self.linked: set[bytes] = set()
+        # whether there are folders that watchman does not look into
+        self.has_unwatched = False
+        repository = repository_above(root) if uses_rules else None
+        # the paths that rules are asked about begin at the top of the repository
+        self._from_top = b"" if repository is None else _inside(os.path.relpath(root, repository.top))
+        self._repository = None if repository is None or self._is_ignored(repository) else repository
+
+    def _is_ignored(self, repository: Repository) -> bool:
+        """Whether the folder is ignored in its repository."""
+        chain, parts, at = self._at_top(repository), self._from_top.split(b"/")[:-1], b""
+        for part in parts:
+            chain = self._entered(chain, at, os.path.join(repository.top, at), None)
+            at += part + b"/"
+            if chain.ignores(at):
+                return True
         return False
-    # 1 if it is not ignored
-    return _git(root, b"check-ignore", b"-q", b".").returncode == 1
 
+    def _at_top(self, repository: Repository) -> Chain:
+        return Chain().in_repository([(b"", rules) for rules in rules_of(repository)])
 
-def list_by_git(root: bytes) -> Listing:
-    """The files that git tracks or does not ignore, those of repositories inside too. Symbolic links are left out. A repository that
-    git does not list is among the faults."""
-    listing = Listing({}, {})
-    folders = [b""]
-    while folders:
-        folder = folders.pop()
-        done = _git(os.path.join(root, folder), b"ls-files", b"-z", b"--cached", b"--others", b"--exclude-standard", b"--deduplicate")
-        if done.returncode != 0:
-            message = done.stderr.decode(errors="replace").strip().splitlines()
-            listing.faults[folder or root] = message[0] if message else f"git has ended with status {done.returncode}"
-            continue
-        for path in done.stdout.split(b"\0")[:-1]:
-            inner = _add(listing, root, os.path.join(folder, path.rstrip(b"/")))
-            # a repository inside is listed as its folder
-            if inner is not None and os.path.lexists(os.path.join(inner, _GIT_FOLDER)):
-                folders.append(os.path.relpath(inner, root))
-    return listing
+    def _above(self) -> Chain:
+        """The rules that hold in the folder, without those of the folder itself."""
+        if self._repository is None:
+            return Chain()
+        chain, at = self._at_top(self._repository), b""
+        for part in self._from_top.split(b"/")[:-1]:
+            chain = self._entered(chain, at, os.path.join(self._repository.top, at), None)
+            at += part + b"/"
+        return chain
 
+    def _entered(self, chain: Chain, at: bytes, path: bytes, names: frozenset[bytes] | None) -> Chain:
+        """The chain with the rules of a folder, whose files are named, if they are known."""
+        for rank, file in enumerate(RULE_FILES):
+            if (names is None or file in names) and (rank != GIT or chain.is_in_repository):
+                rules = rules_at(os.path.join(path, file))
+                chain = chain.with_rules(rank, at, rules) if rules else chain
+        return chain
 
-def list_by_walk(root: bytes) -> Listing:
-    """All files below a folder but symbolic links and what is named .git. A folder that cannot be read is among the faults."""
-    listing = Listing({}, {})
-    folders = [b""]
-    while folders:
-        folder = folders.pop()
+    def _chain_in(self, folder: bytes, chain: Chain, names: frozenset[bytes] | None) -> Chain:
+        """The chain for what is in a folder, of the chain that holds for the folder itself."""
+        if not self._uses_rules:
+            return Chain()
+        path, at = os.path.join(self.root, folder), self._from_top + _inside(folder)
+        if folder and (names is None or _GIT_FOLDER in names) and (inner := repository_at(path)):
+            self._repositories[folder] = inner
+            chain = chain.in_repository([(at, rules) for rules in rules_of(inner)])
+        chain = self._chains[folder] = self._entered(chain, at, path, names)
+        return chain
+
+    def list(self) -> Listing:
+        """All files. What cannot be read, or whose rules cannot, is among the faults."""
+        listing = Listing({}, {})
+        self._chains.clear()
+        self._repositories.clear()
+        self.linked.clear()
+        self.has_unwatched = False
+        if self._repository:
+            self._repositories[b""] = self._repository
+            if repository_at(self._repository.top) is None:
+                listing.faults[self.root] = "not a git repository any more"
+        for path, is_folder in self._walk(listing):
+            if not is_folder:
+                self._add(listing, path)
+        self._tracked = {folder: self._tracked_in(folder, listing) for folder in self._repositories}
+        for names in self._tracked.values():
+            for name in names - listing.files.keys():
+                if (file := self.file_at(name)) is not None:
+                    listing.files[name] = file
+        self._stamps = {path: _stamp_of(path) for path in self._controls()}
+        return listing
+
+    def _walk(self, listing: Listing) -> Iterator[tuple[bytes, bool]]:
+        """The paths below the folder that no rule names, and whether each is that of a folder."""
+        folders: list[tuple[bytes, Chain, frozenset[tuple[int, int]]]] = [(b"", self._above(), frozenset())]
+        while folders:
+            folder, chain, above = folders.pop()
+            try:
+                with os.scandir(os.path.join(self.root, folder)) as scanned:
+                    entries = list(scanned)
+                above = self._with_number(folder, above)
+            except OSError as error:
+                if not folder or not isinstance(error, _NOT_THERE):
+                    listing.faults[folder or self.root] = error.strerror or str(error)
+                continue
+            chain = self._chain_in(folder, chain, frozenset(entry.name for entry in entries))
+            for entry in entries:
+                path = _inside(folder) + entry.name
+                is_folder = self._is_wanted(entry, chain, path)
+                if is_folder:
+                    folders.append((path, chain, above))
+                    self.has_unwatched |= entry.name in _UNWATCHED
+                if is_folder is not None:
+                    yield path, is_folder
+
+    def _with_number(self, folder: bytes, above: frozenset[tuple[int, int]]) -> frozenset[tuple[int, int]]:
+        """The numbers of the folders that lead to this one, with its own: who follows links could go round for ever."""
+        if not self._follows:
+            return above
+        state = os.stat(os.path.join(self.root, folder))
+        if (state.st_dev, state.st_ino) in above:
+            raise FileNotFoundError
+        return above | {(state.st_dev, state.st_ino)}
+
+    def _is_wanted(self, entry: os.DirEntry[bytes], chain: Chain, path: bytes) -> bool | None:
+        """Whether an entry is a folder; None if it is left out."""
+        if entry.name == _GIT_FOLDER or (entry.is_symlink() and not self._follows):
+            return None
+        is_folder = entry.is_dir()
+        return None if chain.ignores(self._from_top + path + b"/" * is_folder) else is_folder
+
+    def _add(self, listing: Listing, name: bytes) -> None:
         try:
-            with os.scandir(os.path.join(root, folder)) as entries:
-                names = [entry.name for entry in entries if entry.name != _GIT_FOLDER and not entry.is_symlink()]
+            file = self._file(name)
         except OSError as error:
-            listing.faults[folder or root] = error.strerror or str(error)
-            continue
-        for name in names:
-            path = os.path.join(folder, name)
-            if _add(listing, root, path) is not None:
-                folders.append(path)
-    return listing
+            listing.faults[name] = error.strerror or str(error)
+        else:
+            if file:
+                listing.files[name] = file
+
+    def _file(self, name: bytes) -> File | None:
+        """A regular file, or None if it is none or gone."""
+        path = self._begin + name
+        try:
+            state = os.stat(path) if self._follows else os.lstat(path)
+        except _NOT_THERE:
+            return None
+        if not stat.S_ISREG(state.st_mode):
+            return None
+        if state.st_nlink > 1:
+            self.linked.add(name)
+        return File(os.path.realpath(path) if self._follows else path, _stamp(state))
+
+    def _tracked_in(self, folder: bytes, listing: Listing | None) -> set[bytes]:
+        """The files below the folder that one of its repositories tracks, by their paths from the folder's top."""
+        repository = self._repositories[folder]
+        try:
+            names = tracked(repository)
+        except Unknown:
+            if listing:
+                listing.faults[repository.index] = _NO_INDEX
+            return set()
+        if folder:
+            return {_inside(folder) + name for name in names}
+        return {name[len(self._from_top) :] for name in names if name.startswith(self._from_top)}
+
+    def file_at(self, name: bytes) -> File | None:
+        """The file of this name, if it is there and belongs to the list. It is asked for once all files are listed."""
+        try:
+            file = self._file(name)
+        except OSError:
+            return None
+        parts = name.split(b"/")
+        if file is None or _GIT_FOLDER in parts or self._has_link(parts):
+            return None
+        is_tracked = any(name in names for names in self._tracked.values())
+        return file if self._is_listed(parts, range(GIT if is_tracked else len(RULE_FILES))) else None
+
+    def stamp_at(self, name: bytes) -> Stamp | None:
+        """The stamp of a file now, whether it belongs to the list or not; None if it is not there."""
+        return _stamp_of(self._begin + name)
+
+    def has_folder(self, name: bytes) -> bool:
+        """Whether a folder is one that is listed, as `file_at` says it of a file."""
+        parts = [*name.split(b"/"), b""] if name else [b""]
+        return _GIT_FOLDER not in parts and not self._has_link(parts) and self._is_listed(parts, range(len(RULE_FILES)))
+
+    def _has_link(self, parts: list[bytes]) -> bool:
+        """Whether a folder on the way is a symbolic link, which the list does not follow."""
+        paths = (os.path.join(self.root, *parts[:count]) for count in range(1, len(parts)))
+        return not self._follows and any(map(os.path.islink, paths))
+
+    def _is_listed(self, parts: list[bytes], ranks: range) -> bool:
+        """Whether the rules of these ranks name neither a path nor a folder above it."""
+        chain = self._chains.get(b"") or self._chain_in(b"", self._above(), None)
+        for count in range(1, len(parts)):
+            folder = b"/".join(parts[:count])
+            if chain.ignores(self._from_top + folder + b"/", ranks):
+                return False
+            chain = self._chains.get(folder) or self._chain_in(folder, chain, None)
+        return not parts[-1] or not chain.ignores(self._from_top + b"/".join(parts), ranks)
+
+    def _controls(self) -> Iterator[bytes]:
+        """The files outside the list that say what is in it."""
+        for repository in self._repositories.values():
+            yield rules_of_user(repository)
+            yield from settings_of_user(repository)
+            yield repository.exclude
+            yield repository.index
+
+    def has_news(self) -> bool:
+        """Whether a file outside the list has changed that says what is in it."""
+        return any(_stamp_of(path) != stamp for path, stamp in self._stamps.items())
+
+    def news(self, names: set[bytes]) -> set[bytes] | None:
+        """Of files that may have changed, all that have to be looked at, with those that git tracks since or does no longer. None if
+        all files have to be."""
+        if any(name.rpartition(b"/")[2] in (*RULE_FILES, _GIT_FOLDER) or not _UNWATCHED.isdisjoint(name.split(b"/")) for name in names):
+            return None
+        changed = {path for path, stamp in self._stamps.items() if _stamp_of(path) != stamp}
+        found = set(names)
+        for folder, repository in self._repositories.items():
+            if repository.index in changed:
+                self._stamps[repository.index] = _stamp_of(repository.index)
+                before, self._tracked[folder] = self._tracked[folder], self._tracked_in(folder, None)
+                found |= before ^ self._tracked[folder]
+                changed.discard(repository.index)
+        return None if changed else found
 
 
-def _add(listing: Listing, root: bytes, name: bytes) -> bytes | None:
-    """Adds a file, unless it is gone by now. The path of a folder is given back."""
-    path = os.path.join(root, name)
+def _inside(folder: bytes) -> bytes:
+    """What the paths of the files in a folder begin with."""
+    return b"" if folder in (b"", b".") else folder + b"/"
+
+
+def _stamp(state: os.stat_result) -> Stamp:
+    return Stamp(state.st_mtime_ns, state.st_ctime_ns, state.st_size, state.st_ino)
+
+
+def _stamp_of(path: bytes) -> Stamp | None:
     try:
-        state = os.lstat(path)
-    except (FileNotFoundError, NotADirectoryError):
+        return _stamp(os.stat(path))
+    except OSError:
         return None
-    except OSError as error:
-        listing.faults[name] = error.strerror or str(error)
-        return None
-    if stat.S_ISDIR(state.st_mode):
-        return path
-    if stat.S_ISREG(state.st_mode):
-        listing.files[name] = File(path, Stamp(state.st_mtime_ns, state.st_ctime_ns, state.st_size, state.st_ino))
-    return None
-
-
-def _git(folder: bytes, *words: bytes) -> subprocess.CompletedProcess[bytes]:
-    """Runs git in a folder. A repository may name a command as its watcher of files: it is not run."""
-    command = [b"git", b"-c", b"core.fsmonitor=false", b"-C", folder, *words]
-    environment = {**os.environ, "LC_ALL": "C", "GIT_OPTIONAL_LOCKS": "0"}
-    try:
-        return subprocess.run(command, stdin=subprocess.DEVNULL, capture_output=True, env=environment, timeout=_GIT_TIME, check=False)
-    except (FileNotFoundError, subprocess.TimeoutExpired) as error:
-        return subprocess.CompletedProcess(command, 127, b"", str(error).encode())

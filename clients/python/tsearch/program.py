@@ -7,6 +7,7 @@ import os
 import pathlib
 import shutil
 import signal
+import sys
 from collections.abc import Sequence
 
 from .errors import Error
@@ -15,16 +16,31 @@ from .errors import Error
 TO_END = 5.0
 # The most puts, loads and removes that a session can be told to take: a client that stays does not want to be full.
 MOST_COMMANDS = 4_294_967_294
+_NONE = "there is no program: set TSEARCH to its path, or build it in the repository (./tsearch --path) and install the package again"
 
 
 def find_program() -> str:
-    """The path of the program: that of the variable TSEARCH; else that of the repository in which this package lies, whose first call
-    compiles it, in some minutes; else the command `tsearch` on the PATH. `Error` if there is none."""
-    beside = pathlib.Path(__file__).resolve().parents[3] / "tsearch"
-    found = os.environ.get("TSEARCH") or (str(beside) if beside.is_file() else shutil.which("tsearch"))
+    """The path of the program: that of the variable TSEARCH; else that which the package brings along; else that of the repository in
+    which this package lies, whose first call compiles it, in some minutes; else the command `tsearch` on the PATH. `Error` if there is
+    none."""
+    found = os.environ.get("TSEARCH") or _own_program() or shutil.which("tsearch")
     if not found:
-        raise Error("there is no program: set TSEARCH to its path")
+        raise Error(_NONE)
     return found
+
+
+def _own_program() -> str | None:
+    package = pathlib.Path(__file__).resolve().parent
+    places = package / "built/tsearch", package.parents[2] / "tsearch"
+    return next((str(place) for place in places if place.is_file()), None)
+
+
+def main() -> None:
+    """The command `tsearch` of the package: the program that it brings along, with the same words."""
+    own = os.environ.get("TSEARCH") or _own_program()
+    if own is None:
+        sys.exit(f"tsearch: {_NONE}")
+    os.execv(own, ["tsearch", *sys.argv[1:]])
 
 
 def kill_group(process: int) -> None:

@@ -563,19 +563,23 @@ class Session(Changes):
         """
         query, deadline = Query.of(pattern, **options), _deadline(timeout)
         for _ in range(MOST_TRIES):
-            searches: list[Search] = []
-            try:
-                for part in query.parts():
-                    searches.append(self.begin_query(part, deadline))
-                answers = [search.result(_left(deadline)) for search in searches]
-            except BaseException:
-                # as a timeout and Ctrl-C; there is nothing to cancel after a refusal
-                for search in searches:
-                    search.cancel()
-                raise
+            answers = self._answers(query, deadline)
             if (answer := joined(answers)) is not None:
                 return answer
         raise Error("the documents change too often for two searches")
+
+    def _answers(self, query: Query, deadline: float | None) -> list[Answer]:
+        """Those of the searches that are made for a query."""
+        searches: list[Search] = []
+        try:
+            for part in query.parts():
+                searches.append(self.begin_query(part, deadline))
+            return [search.result(_left(deadline)) for search in searches]
+        except BaseException:
+            # as a timeout and Ctrl-C; there is nothing to cancel after a refusal
+            for search in searches:
+                search.cancel()
+            raise
 
     def cancel(self, search: Search) -> None:
         """Gives up a search, as its own `cancel` does."""

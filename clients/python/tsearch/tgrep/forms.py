@@ -1,0 +1,285 @@
+"""What an answer looks like: the program's rows, as they come, become what is written.
+
+A row is NAME, a byte 0, LINE, a `:` or, for a line around, a `-`, and the text. Where nothing else is asked for, whole pieces are passed
+on with a few replacements; the other forms read each row.
+"""
+
+from __future__ import annotations
+
+import re
+from collections.abc import Callable, Iterator
+from typing import Any, NamedTuple
+
+from ..answers import View
+from ..names import quote, unquote
+from .asking import Piece
+
+_QUOTED_NAME = re.compile(rb"^[^\0\n%]*%[^\0\n]*(?=\0)", re.MULTILINE)
+_NUMBERED = re.compile(rb"^([^\0\n]*)\0([0-9]+)([:-])", re.MULTILINE)
+_LINE = re.compile(rb"^([^\0\n]*)\0([0-9]+)([:-])()()([^\n]*)\n", re.MULTILINE)
+_COLUMN = re.compile(rb"^([^\0\n]*)\0([0-9]+)(:)([0-9]+):()([^\n]*)\n", re.MULTILINE)
+_SPANS = re.compile(rb"^([^\0\n]*)\0([0-9]+)(:)()([0-9,-]*):([^\n]*)\n", re.MULTILINE)
+_ROWS = {View.LINES: _LINE, View.CONTEXT: _LINE, View.COLUMN: _COLUMN, View.SPANS: _SPANS}
+_CONTROL = re.compile(rb"[\0-\x08\x0b-\x1f\x7f]")
+
+Spans = tuple[tuple[int, int], ...]
+
+
+class Row(NamedTuple):
+    """A line to show: its path, as it is shown, its number, whether it was found, its text, and where the matches are."""
+
+    name: bytes
+    number: int
+    is_found: bool
+    text: bytes
+    spans: Spans | None = None
+    column: int | None = None
+
+
+class Totals:
+    """What a call has found and written."""
+
+    def __init__(self) -> None:
+        self.lines = self.matches = self.files = self.written = 0
+        self.last: bytes | None = None
+
+    def add(self, row: Row) -> None:
+        """Counts a line that was found."""
+        self.lines += 1
+        self.matches += len(row.spans or ())
+        self.files += row.name != self.last
+        self.last = row.name
+
+
+class Passing:
+    """Passes rows on as they are, but for what the names begin with."""
+
+    def __init__(
+        self, piece: Piece, given: dict[str, Any], has_names: bool, is_terminal: bool, has_context: bool, has_quoted: bool
+    ) -> None:
+        self._before = b"\n" + quote(piece.under) + b"\0" * piece.is_file
+        self._after = b"\n" + quote(piece.shown) + b"\0" * piece.is_file
+        self._rest = b""
+        self._has_quoted = has_names and (has_quoted or quote(piece.shown) != piece.shown)
+        self._is_terminal = is_terminal
+        self._template = self._template_of(given, has_names, has_context)
+        self._separator = given.get("separator")
+        self._null = bool(given.get("null"))
+        self._line = piece.line
+
+    @staticmethod
+    def _template_of(given: dict[str, Any], has_names: bool, has_context: bool) -> bytes | None:
+        """What is written in place of a row's name and number; None where the byte 0 is all that changes."""
+        has_numbers = given.get("line_number", True)
+        if has_names and has_numbers and not (has_context and not given.get("null")):
+            return None
+        name = (rb"\1" + (b"\0" if given.get("null") else rb"\3")) if has_names else b""
+        return name + (rb"\2\3" if has_numbers else b"")
+
+    def take(self, data: bytes) -> bytes:
+        """What is written for a piece of the rows."""
+        data = self._rest + data
+        end = data.rfind(b"\n") + 1
+        self._rest = data[end:]
+        return self._form(data[:end]) if end else b""
+
+    def _form(self, rows: bytes) -> bytes:
+        if self._line:
+            rows = _NUMBERED.sub(lambda found: b"%s\0%d%s" % (found[1], int(found[2]) + self._line, found[3]), rows)
+        if self._before != self._after:
+            rows = (b"\n" + rows[:-1]).replace(self._before, self._after)[1:] + b"\n"
+            if self._before == b"\n":
+                rows = (b"\n" + rows).replace(self._after + b"--\n", b"\n--\n")[1:]
+        if self._has_quoted and b"%" in rows:
+            rows = _QUOTED_NAME.sub(lambda found: unquote(found[0]), rows)
+        if self._separator is not None:
+            rows = (b"\n" + rows).replace(b"\n--\n", b"\n" + self._separator.encode(errors="surrogateescape") + b"\n")[1:]
+        if self._template is not None:
+            rows = _NUMBERED.sub(self._template, rows)
+        elif not self._null:
+            rows = rows.replace(b"\0", b":")
+        if self._is_terminal:
+            rows = shown_controls(rows, keeps=b"\0" if self._null else b"")
+        return rows
+
+
+def shown_controls(data: bytes, keeps: bytes = b"") -> bytes:
+    """The data with its control bytes as `^[` and the like: a line of a file could else tell the terminal what to do."""
+    return _CONTROL.sub(lambda found: found[0] if found[0] == keeps else b"^%c" % (found[0][0] ^ 64), data)
+
+
+class Reading:
+    """Reads rows as they come."""
+
+    def __init__(self, piece: Piece, view: View, spans: Iterator[Spans | None] | None = None, columns: Iterator[int] | None = None) -> None:
+        self._piece = piece
+        self._row = _ROWS[view]
+        self._spans, self._columns = spans, columns
+        self._rest = b""
+        self._quoted, self._shown = b"", b""
+
+    def take(self, data: bytes) -> Iterator[Row]:
+        """The rows that end in a piece of them. A gap is left out."""
+        data = self._rest + data
+        end = data.rfind(b"\n") + 1
+        self._rest = data[end:]
+        for found in self._row.finditer(data, 0, end):
+            quoted, number, kind, column, places, text = found.groups()
+            if quoted != self._quoted:
+                self._quoted, self._shown = quoted, self._piece.displayed(unquote(quoted))
+            is_found = kind == b":"
+            spans = spans_of(places) if self._row is _SPANS else None
+            if is_found and self._spans:
+                spans = next(self._spans)
+            at = int(column) if column else next(self._columns) if is_found and self._columns else None
+            line = int(number) + self._piece.line
+            if self._piece.first <= line and (line <= self._piece.last or not self._piece.last):
+                yield Row(self._shown, line, is_found, text, spans, at)
+
+
+def spans_of(places: bytes) -> Spans:
+    """The matches that `FROM-TO,FROM-TO` says, as `text[begin:end]`."""
+    pairs = (place.partition(b"-") for place in places.split(b",") if place)
+    return tuple((int(first) - 1, int(last)) for first, _, last in pairs)
+
+
+def all_spans(data: bytes) -> Iterator[Spans]:
+    """Those of each row of an answer with spans."""
+    return (spans_of(found[5]) for found in _SPANS.finditer(data))
+
+
+def all_columns(data: bytes) -> Iterator[int]:
+    """Those of each row of an answer with columns."""
+    return (int(found[4]) for found in _COLUMN.finditer(data))
+
+
+class Around:
+    """Keeps, of rows, those that were found, at most so many of each file, and the lines before and after them."""
+
+    def __init__(self, before: int, after: int, most: int | None) -> None:
+        self._before, self._after, self._most = before, after, most
+        self._name: bytes | None = None
+        self._count = 0
+        self._last_found: int | None = None
+        self._pending: list[Row] = []
+
+    def has_all(self, last: int) -> bool:
+        """Whether no line behind this one is shown."""
+        return self._most is not None and self._count >= self._most and last >= (self._last_found or 0) + self._after
+
+    def take(self, row: Row) -> list[Row]:
+        """The rows to show once this one has come."""
+        if row.name != self._name:
+            self._name, self._count, self._last_found = row.name, 0, None
+            self._pending.clear()
+        has_all = self._most is not None and self._count >= self._most
+        if row.is_found and not has_all:
+            self._count += 1
+            self._last_found = row.number
+            shown = [*(one for one in self._pending if one.number >= row.number - self._before), row]
+            self._pending.clear()
+            return shown
+        if self._last_found is not None and row.number - self._last_found <= self._after:
+            return [row._replace(is_found=False)]
+        if self._before and not has_all:
+            self._pending = [*self._pending[-self._before + 1 :], row] if self._before > 1 else [row]
+        return []
+
+
+class Colours:
+    """The colours of parts, as rg has them."""
+
+    _NAMES = ("black", "red", "green", "yellow", "blue", "magenta", "cyan", "white")
+    _STYLES = {"bold": b"1", "intense": b"1", "underline": b"4", "nobold": b"", "nointense": b"", "nounderline": b""}
+
+    def __init__(self, is_on: bool, specs: list[str]) -> None:
+        self.is_on = is_on
+        self._codes = {"path": [b"35"], "line": [b"32"], "column": [], "match": [b"1", b"31"]}
+        for spec in specs:
+            kind, _, rest = spec.partition(":")
+            if kind in self._codes:
+                self._codes[kind] = self._with(self._codes[kind], *rest.partition(":")[::2])
+
+    def _with(self, codes: list[bytes], what: str, value: str) -> list[bytes]:
+        if what == "none":
+            return []
+        if what == "style":
+            bold = {"bold": b"1", "nobold": b"1", "intense": b"1", "nointense": b"1"}.get(value, b"4")
+            kept = [code for code in codes if code != bold]
+            return [self._STYLES[value], *kept] if self._STYLES.get(value) else kept
+        if value in self._NAMES:
+            first = 30 if what == "fg" else 40
+            kept = [code for code in codes if not (len(code) == 2 and first <= int(code) < first + 8)]
+            return [*kept, b"%d" % (first + self._NAMES.index(value))]
+        return codes
+
+    def paint(self, text: bytes, kind: str) -> bytes:
+        """The text in its colour."""
+        if not self.is_on:
+            return text
+        return b"\x1b[0m" + b"".join(b"\x1b[%sm" % code for code in self._codes[kind]) + text + b"\x1b[0m"
+
+
+class Lines:
+    """Writes rows as lines: with the path in each or above them, in colours, whole, or each match alone."""
+
+    def __init__(self, given: dict[str, Any], has_names: bool, is_terminal: bool, colours: Colours, has_context: bool, has_shown: bool) -> None:
+        self._heading = bool(given.get("heading")) and has_names
+        self._has_names = has_names and not self._heading
+        self._has_numbers = given.get("line_number", True)
+        self._has_columns = bool(given.get("column"))
+        self._each = bool(given.get("vimgrep"))
+        self._only = bool(given.get("only_matching"))
+        self._most = given.get("max_columns")
+        self._null = bool(given.get("null"))
+        self._colours = colours
+        self._show: Callable[[bytes], bytes] = shown_controls if is_terminal else bytes
+        self._separator = given.get("separator", "--").encode(errors="surrogateescape")
+        self._has_context = has_context
+        # a place that no row has, if another tree has some
+        self._last: tuple[bytes, int] | None = (b"", 0) if has_shown else None
+
+    def write(self, row: Row) -> bytes:
+        """What is written for a row."""
+        parts = []
+        if self._heading and (self._last is None or self._last[0] != row.name):
+            parts.append(b"\n" * (self._last is not None) + self._path(row.name) + (b"\0" if self._null else b"\n"))
+        elif self._has_context and self._last and self._last != (row.name, row.number - 1):
+            parts.append(self._separator + b"\n")
+        self._last = (row.name, row.number)
+        return b"".join([*parts, *(self._matches(row) if row.is_found and (self._only or self._each) else [self._line(row, row.column, None)])])
+
+    def _path(self, name: bytes) -> bytes:
+        return self._colours.paint(self._show(name), "path")
+
+    def _matches(self, row: Row) -> Iterator[bytes]:
+        at = (row.column or 1) - 1
+        # a line with empty matches alone is shown once, where the first is
+        for span in row.spans or (() if self._only else ((at, at),)):
+            yield self._line(row._replace(spans=(span,)) if self._each else row, span[0] + 1, span)
+
+    def _line(self, row: Row, column: int | None, only: tuple[int, int] | None) -> bytes:
+        separator = b":" if row.is_found else b"-"
+        parts = []
+        if self._has_names:
+            parts.append(self._path(row.name) + (b"\0" if self._null else separator))
+        if self._has_numbers:
+            parts.append(self._colours.paint(b"%d" % row.number, "line") + separator)
+        if self._has_columns and row.is_found:
+            column = row.spans[0][0] + 1 if column is None and row.spans else column
+            parts.append(self._colours.paint(b"%d" % (column or 1), "column") + separator)
+        parts.append(self._text(row, only if self._only else None))
+        return b"".join(parts) + b"\n"
+
+    def _text(self, row: Row, only: tuple[int, int] | None) -> bytes:
+        if only:
+            return self._colours.paint(self._show(row.text[only[0] : only[1]]), "match")
+        if self._most and len(row.text) + 1 > self._most:
+            return b"[Omitted long %s line]" % (b"matching" if row.is_found else b"context")
+        if not (self._colours.is_on and row.spans and row.is_found):
+            return self._show(row.text)
+        parts, at = [], 0
+        for begin, end in row.spans:
+            parts += [self._show(row.text[at:begin]), self._colours.paint(self._show(row.text[begin:end]), "match")]
+            at = end
+        return b"".join(parts) + self._show(row.text[at:])

@@ -1,0 +1,129 @@
+"""Writes rows as JSON lines, in the form of rg (`rg --help`, `--json`)."""
+
+from __future__ import annotations
+
+import base64
+import json
+import time
+from collections.abc import Callable
+from typing import Any
+
+from .forms import Row, Totals
+
+
+class JsonLines:
+    """Writes the messages begin, match, context and end for each file, and a summary.
+
+    body_of: gives the bytes of a file, by its path as it is shown: the offset of a line is counted in it.
+    """
+
+    def __init__(self, body_of: Callable[[bytes], bytes], totals: Totals, began: float, before: tuple[int, int] = (0, 0)) -> None:
+        self._body_of = body_of
+        self._totals = totals
+        self._began = began
+        self._name: bytes | None = None
+        self._body, self._line, self._offset, self._before = b"", 1, 0, 0
+        self._window: tuple[bytes, int, int] | None = None
+        self._lines = self._matches = self._written = 0
+        self._all_written, self._all_searched = before
+
+    def write(self, row: Row) -> bytes:
+        """What is written for a row."""
+        parts = []
+        if row.name != self._name:
+            parts.append(self._end())
+            parts.append(self._begin(row.name))
+        parts.append(self._row(row))
+        self._written += len(parts[-1])
+        return b"".join(parts)
+
+    @property
+    def bytes_so_far(self) -> tuple[int, int]:
+        """How many bytes were written and searched."""
+        return self._all_written, self._all_searched
+
+    def end(self, searched: int, is_last: bool = True) -> bytes:
+        """What is written after the last row, where so many files were searched: the summary if no other tree follows."""
+        last = self._end()
+        if not is_last:
+            return last
+        elapsed = _elapsed(self._began)
+        totals = {
+            "elapsed": elapsed,
+            "searches": searched,
+            "searches_with_match": self._totals.files,
+            "bytes_searched": self._all_searched,
+            "bytes_printed": self._all_written,
+            "matched_lines": self._totals.lines,
+            "matches": self._totals.matches,
+        }
+        return last + _message("summary", {"elapsed_total": elapsed, "stats": totals})
+
+    def look_at(self, name: bytes, window: tuple[bytes, int, int] | None) -> None:
+        """Counts offsets in a block of a text, which has so many lines and bytes before it; None for whole files."""
+        self._window = window
+        if window and self._name == name:
+            self._look_at(window)
+
+    def _look_at(self, window: tuple[bytes, int, int]) -> None:
+        self._body, line, self._before = window
+        self._line, self._offset = line + 1, 0
+
+    def _begin(self, name: bytes) -> bytes:
+        self._name = name
+        self._look_at(self._window or (self._body_of(name), 0, 0))
+        self._lines = self._matches = self._written = 0
+        return _message("begin", {"path": _data(name)})
+
+    def _end(self) -> bytes:
+        if self._name is None:
+            return b""
+        stats = {
+            "elapsed": _elapsed(self._began),
+            "searches": 1,
+            "searches_with_match": 1,
+            "bytes_searched": self._before + len(self._body),
+            "bytes_printed": self._written,
+            "matched_lines": self._lines,
+            "matches": self._matches,
+        }
+        self._all_written += self._written
+        self._all_searched += self._before + len(self._body)
+        name, self._name = self._name, None
+        return _message("end", {"path": _data(name), "binary_offset": None, "stats": stats})
+
+    def _row(self, row: Row) -> bytes:
+        while self._line < row.number:
+            self._offset = self._body.find(b"\n", self._offset) + 1 or len(self._body)
+            self._line += 1
+        spans = (row.spans or ()) if row.is_found else ()
+        self._lines += row.is_found
+        self._matches += len(spans)
+        end = self._offset + len(row.text)
+        ending = b"" if end >= len(self._body) and not self._body.endswith(b"\n") else b"\n"
+        matches = [{"match": _data(row.text[begin:end]), "start": begin, "end": end} for begin, end in spans]
+        content = {
+            "path": _data(row.name),
+            "lines": _data(row.text + ending),
+            "line_number": row.number,
+            "absolute_offset": self._before + self._offset,
+            "submatches": matches,
+        }
+        return _message("match" if row.is_found else "context", content)
+
+
+def _message(kind: str, data: dict[str, Any]) -> bytes:
+    return json.dumps({"type": kind, "data": data}, ensure_ascii=False, separators=(",", ":")).encode() + b"\n"
+
+
+def _data(data: bytes) -> dict[str, str]:
+    """Text, or base64 of what is no UTF-8."""
+    try:
+        return {"text": data.decode()}
+    except UnicodeDecodeError:
+        return {"bytes": base64.b64encode(data).decode()}
+
+
+def _elapsed(began: float) -> dict[str, Any]:
+    seconds = time.monotonic() - began
+    return {"secs": int(seconds), "nanos": int(seconds % 1 * 1e9), "human": f"{seconds:.6f}s"}
