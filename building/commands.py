@@ -60,18 +60,24 @@ def start(words, log, **how):
         raise CannotBuild(reason_of(error, f"{words[0]} does not start")) from None
 
 
-def run(words, log, what, began, **how):
-    """Runs a command to its end, and returns its status. Each while it says what is done, and for how long."""
-    process = start(words, log, **how)
+def run(commands, what, began, **how):
+    """Runs commands, each given with its log, side by side to their ends, and returns their statuses. Each while it says what is
+    done, and for how long."""
+    processes = []
     try:
-        while True:
-            try:
-                return process.wait(PROGRESS)
-            except subprocess.TimeoutExpired:
-                say(f"{what} ({spent(began)} so far)")
+        for words, log in commands:
+            processes.append(start(words, log, **how))
+        for process in processes:
+            while process.returncode is None:
+                try:
+                    process.wait(PROGRESS)
+                except subprocess.TimeoutExpired:
+                    say(f"{what} ({spent(began)} so far)")
+        return [process.returncode for process in processes]
     finally:
-        if process.poll() is None:
-            end(process)
+        for process in processes:
+            if process.poll() is None:
+                end(process)
 
 
 def reason_of(error, otherwise):
