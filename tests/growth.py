@@ -676,15 +676,47 @@ def copies_of_a_body(runs):
 
 
 def documents_are_analysed_once(runs):
-    """The trigrams of a body are found when it is put, and not again for each copy of the index."""
-    chance = random.Random(1)
-    body = b"".join(bytes(chance.choices(range(97, 105), k=9)) + b"\n" for _ in range(50_000))
+    """The trigrams of a body are found when it is published first, not when it is put, and not again for the other copy of the index."""
+    body = text_of_few_trigrams(50_000)
     for way in BOTH:
-        nothing, pending, shown = (runs.instructions(way, script) for script in (b"", put(b"a", body), put(b"a", body) + b"publish\n" * 3))
-        yield f"instructions of three publishes in a {way}", shown - pending, 0, (pending - nothing) // 4
-        replaced = put(b"a", b"x") + b"publish\n" * 3 + put(b"a", body)
-        before, after_it = (runs.instructions(way, script) for script in (replaced, replaced + b"publish\n" * 3))
-        yield f"instructions of three publishes of a replacement in a {way}", after_it - before, 0, (pending - nothing) // 4
+        nothing, pending, once, shown = (
+            runs.instructions(way, script) for script in (b"", *(put(b"a", body) + b"publish\n" * count for count in (0, 1, 3)))
+        )
+        yield f"instructions of a put that is not published in a {way}", pending - nothing, 0, (once - pending) // 2
+        yield f"instructions of two more publishes in a {way}", shown - once, 0, (once - pending) // 4
+        replaced = put(b"a", b"x") + b"publish\n" * 3 + put(b"a", body) + b"publish\n"
+        before, after_it = (runs.instructions(way, script) for script in (replaced, replaced + b"publish\n" * 2))
+        yield f"instructions of two more publishes of a replacement in a {way}", after_it - before, 0, (once - pending) // 4
+
+
+def text_of_few_trigrams(lines):
+    """Lines of nine letters out of eight, so its sets are few and its analysis is long."""
+    chance = random.Random(1)
+    return b"".join(bytes(chance.choices(range(97, 105), k=9)) + b"\n" for _ in range(lines))
+
+
+def bodies_of_a_publish_are_analysed_by_all_threads(runs):
+    """Of bodies that are published together, each of three threads analyses a third, also where they are behind many small ones. Of many
+    bytes the first thread analyses a third of the first piece only, since it fills the copy meanwhile. One body, and many small ones, are
+    analysed without a thread."""
+    text = text_of_few_trigrams(20_000)
+    third = 1 / 4, 5 / 12, 5 / 12
+    for what, few, many, (least, most, one) in ("nine", 0, 9, third), ("nine behind forty", 40, 9, third), ("ninety", 0, 90, (0, 1 / 8, 5 / 8)):
+        puts = b"".join(put(b"f%d" % number, b"x" if number < few else text) for number in range(few + many))
+        work = runs.instructions(SCRIPT, puts + b"publish\n") - runs.instructions(SCRIPT, puts)
+        pending, shown = (runs.instructions_of_all_threads(SCRIPT_BESIDE, puts + end) for end in (b"", b"publish\n"))
+        yield f"instructions of the first thread for {what} bodies", shown[0] - pending[0], int(work * least), int(work * most)
+        yield f"instructions of the others for {what} bodies", sum(shown[1:]) - sum(pending[1:]), work - int(work * most), work
+        yield f"instructions of the one that does most for {what} bodies", max(shown[1:]), 0, int(work * one)
+    nothing, one, small = (
+        runs.memory(SCRIPT_BESIDE, script).threads
+        for script in (b"publish\n", put(b"a", text_of_few_trigrams(90_000)) + b"publish\n", documents(1000) + b"publish\n")
+    )
+    yield "threads for a publish of one body", one - nothing, 0, 0
+    yield "threads for a publish of a thousand small bodies", small - nothing, 0, 0
+    puts = b"".join(put(b"f%d" % number, text_of_many_trigrams(20_000)) for number in range(9))
+    alone, beside = (runs.memory(way, puts + b"publish\nsearch y\n").most for way in (SCRIPT, SCRIPT_BESIDE))
+    yield "bytes in use at once where bodies are analysed side by side", beside, alone * 3 // 4, alone * 5 // 4
 
 
 def documents_that_are_kept(runs):
@@ -1027,10 +1059,10 @@ def searches_come_before_the_second_copy(runs):
 
 def parts_of_a_search_are_even(runs):
     """Of a search of nine bodies of one length in three threads, each looks at three bodies, and of one of two bodies no thread at both."""
-    large = b"".join(put(b"f%d" % number, b"some text\n" * 60_000) for number in range(9)) + b"publish\n"
+    large = b"".join(put(b"f%d" % number, b"some text\n" * 60_000) + b"publish\n" for number in range(9))
     most, all_of_them = most_of_a_thread(runs, large + b"search e.*z\n")
     yield "instructions of the thread that does most of a search", most, all_of_them // 4, all_of_them // 2
-    two = b"".join(put(b"f%d" % number, b"some text\n" * 100_000) for number in range(2)) + b"publish\n"
+    two = b"".join(put(b"f%d" % number, b"some text\n" * 100_000) + b"publish\n" for number in range(2))
     most, all_of_them = most_of_a_thread(runs, two + b"search e.*z\n")
     yield "instructions of the thread that does most of a search of two bodies", most, all_of_them // 3, all_of_them * 2 // 3
 
@@ -1044,10 +1076,10 @@ def most_of_a_thread(runs, script):
 
 def parts_of_a_search_are_gone_through_once(runs):
     """Also where a limit is gone beyond in the last of three parts."""
-    large = b"".join(put(b"f%d" % number, b"some text\n" * 60_000 + b"end\n" * (number == 8) * 10) for number in range(9)) + b"publish\n"
+    large = b"".join(put(b"f%d" % number, b"some text\n" * 60_000 + b"end\n" * (number == 8) * 10) + b"publish\n" for number in range(9))
     limited, whole = (sum(runs.instructions_of_threads(SCRIPT_BESIDE, large + b"find %s-- n.*d\n" % words)) for words in (b"-m 1 ", b""))
     yield "instructions of a search with a limit", limited, whole // 2, whole * 5 // 4
-    large = b"".join(put(b"f%d" % number, b"some text\n" * 60_000 + b"end\n") for number in range(9)) + b"publish\n"
+    large = b"".join(put(b"f%d" % number, b"some text\n" * 60_000 + b"end\n") + b"publish\n" for number in range(9))
     with_hits = sum(runs.instructions_of_threads(SCRIPT_BESIDE, large + b"find -- n.*d\n"))
     yield "instructions of a search with hits in each part", with_hits, whole // 2, whole * 5 // 4
 
@@ -1055,19 +1087,21 @@ def parts_of_a_search_are_gone_through_once(runs):
 def publishes_change_one_copy(runs):
     """A publish changes the copy that no reader sees. The other one is changed by the next publish."""
     pending, once, twice = (runs.instructions(SCRIPT, documents(1000) + b"publish\n" * count) for count in (0, 1, 2))
-    yield "instructions of a publish of nothing behind another", twice - once, (once - pending) // 2, 2 * (once - pending)
+    yield "instructions of a publish of nothing behind another", twice - once, (once - pending) // 4, once - pending
 
 
 def copies_are_brought_up_to_date_once(runs):
-    """A session that waits for items brings the copies up to date when it first waits after a put or a publish, and not each time. A publish
+    """A session that waits for items brings the second copy up to date when it first waits after a publish, and not each time. A publish
     does none of this again."""
     pending, shown = (runs.instructions_of_a_talk(SESSION_OF_ONE_READER, put(b"a", b"x") + b"publish\n" * count, 200) for count in (0, 1))
     yield "instructions of the first thread for 200 waits behind a publish", shown - pending, -pending, 200 * 500
-    copy = runs.instructions(SESSION, documents(1000) + b"publish\n") - runs.instructions(SESSION, documents(1000))
+    first, both = (runs.instructions(SESSION, documents(1000) + b"publish\n" * count) for count in (1, 2))
+    copy = both - first
     pending, once, twice = (
         runs.instructions_of_a_talk(SESSION_OF_ONE_READER, documents(1000) + b"publish\n" * count, 20) for count in (0, 1, 2)
     )
-    yield "instructions of the first thread for the second copy, where the first is there", once - pending, copy * 3 // 4, copy * 5 // 4
+    both -= runs.instructions(SESSION, documents(1000))
+    yield "instructions of the first thread for the two copies behind a publish", once - pending, both * 7 // 8, both * 9 // 8
     yield "instructions of the first thread for a second publish, beside the two copies", twice - once, -copy // 4, copy // 4
 
 
@@ -1158,6 +1192,7 @@ CHECKS = [
     preparations_are_small,
     copies_of_a_body,
     documents_are_analysed_once,
+    bodies_of_a_publish_are_analysed_by_all_threads,
     documents_that_are_kept,
     trigrams_that_one_document_has,
     documents_that_are_gone,

@@ -54,7 +54,11 @@ fn search_beside_a_put<R: Threads + Wait + Sync>(
 }
 
 /// Puts and publishes.
-fn publish<R: Wait>(rt: &R, desk: &mut Desk, document: (Name, Body)) -> Option<Told>
+fn publish<R: Threads + Wait + Sync>(
+    rt: &R,
+    desk: &mut Desk,
+    document: (Name, Body),
+) -> Option<Told>
     ensures { IfSome result (λ told. told ≡ known desk.old.opening (desk.old.accepted ++ Put document.0 document.1 ∷ [])) }
 {
     desk.put(document.0, document.1).ok()?;

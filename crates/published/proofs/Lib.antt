@@ -5,3 +5,4 @@ pub mod DocumentNames
 pub mod ShelfLemmas
 pub mod DeskLemmas
 pub mod CopiesLemmas
+pub mod FillLemmas

@@ -7,8 +7,6 @@ use Rattle.published.specs.declared.error.PutErrorKind.{PutErrorKind}
 use Rattle.published.specs.declared.error.PutErrorKind.TheVariants as put_error
 use Rattle.published.specs.declared.error.RemoveError.{RemoveError}
 use Rattle.published.specs.declared.error.RemoveError.TheVariants as remove_error
-use Rattle.published.specs.declared.error.Returned.{Returned}
-use Rattle.published.specs.declared.error.Returned.TheVariants.{Plain, Shared}
 
 -- the opening, the greatest number of commands, and the lists of the published and the accepted commands
 pub record DeskState : Type 0 where
@@ -39,11 +37,6 @@ HasRoom desk = length desk.accepted < desk.limit
 -- whether there is a document of this name after these commands
 abbrev pub has_document : List Command → List ℕ → Bool
 has_document commands name = is_some (number_of name (documents_of commands))
-
--- the bytes of a body that is handed back
-abbrev pub returned_bytes : Returned → List ℕ
-returned_bytes (Plain body) = body
-returned_bytes (Shared held) = held
 
 -- the first cause for which a put is refused
 abbrev pub IsPutFault : PutErrorKind → DeskState → Type 0

@@ -1,5 +1,6 @@
 pub mod Batches
 pub mod Names
+pub mod Incoming
 pub mod Shelf
 pub mod Rule
 pub mod Copies

@@ -1,6 +1,8 @@
 //! The two copies of the index, which are exchanged at each publish.
 
-ghost use Rattle.std.specs.Prelude.{◌≡◌, [], ◌∷◌, ◌++◌, OnOk, OnErr, MatchResult};
+ghost use Rattle.std.specs.Prelude.{◌≡◌, [], ◌∷◌, ◌++◌, IfErr, OnOk, OnErr, MatchResult};
+ghost use denote.Param.Send.{IsSync};
+ghost use Rattle.index.specs.declared.command.Command.TheVariants.{Put as put_command};
 ghost use Rattle.published.specs.Private.Shelf.{command_of};
 ghost use Rattle.published.specs.Private.Copies.{InStep, copies_state};
 
@@ -9,9 +11,11 @@ use crate::log::Log;
 use crate::rule::{Both, Meet};
 use crate::shelf::{Operation, Update};
 use core::mem::replace_with;
+use index::{Body, Name};
 use std::alloc::{AllocError, Global};
 use std::marker::Model;
 use std::sync::Wait;
+use std::thread::Threads;
 
 /// The copy that readings see, the spare one, and the operations that one of them lacks. Once no reading looks at the
 /// spare copy any more, operations are carried out on it; a publish carries out the rest and exchanges the two.
@@ -53,13 +57,26 @@ impl Copies {
         Ok(())
     }
 
+    /// Accepts the put of this name and body. An `Err` means that memory ran out, and hands the body back.
+    pub(crate) fn accept_put(&mut self, name: Name, body: Body) -> Result<(), Body>
+        ensures ok { OnOk result (self.new ≡ copies_state self.old.shown (self.old.accepted ++ put_command name body ∷ [])) }
+        ensures err { OnErr result (self.new ≡ self.old) }
+        ensures returned { IfErr result (λ returned. returned ≡ body) }
+    {
+        if let Err(body) = self.log.add_put(name, body) {
+            return Err(body);
+        }
+        Ok(())
+    }
+
     /// Carries out on the spare copy some of what it lacks: first commands that the other copy has, then commands that no
-    /// publish has shown, about `most` bytes of bodies. Returns whether more is left that a further call can carry out. It
-    /// waits only if there is anything to do, for readings that still look at the spare copy.
+    /// publish has shown, up to the first body that is not analysed, about `most` bytes of bodies. Returns whether more is left
+    /// that a further call can carry out. It waits only if there is anything to do, for readings that still look at the spare
+    /// copy.
     pub(crate) fn catch_up<R: Wait>(&mut self, rt: &R, most: usize) -> bool
         ensures { self.new ≡ self.old }
     {
-        if self.log.is_all_done() {
+        if !self.log.is_ready() {
             return false;
         }
         replace_with(
@@ -78,13 +95,19 @@ impl Copies {
         let (open, mut spare) = both.desk.open(rt);
         let left = log.bring_up(&mut *spare, most);
         both.desk = open.shelve(spare);
-        let has_more = left == Ok(0) && !log.is_all_done();
+        let has_more = left == Ok(0) && log.is_ready();
         (Copies { both, log }, has_more)
     }
 
-    /// Carries out on the spare copy all that it lacks, and exchanges the copies: then readings see all accepted commands,
-    /// which are those of this front. An `Err` means that memory ran out; what readings see stays as it is.
-    pub(crate) fn publish<R: Wait>(&mut self, rt: &R, front: &Front) -> Result<(), AllocError>
+    /// Analyses the bodies that are to be shown, in up to `threads` threads, carries out on the spare copy all that it lacks, and
+    /// exchanges the copies: then readings see all accepted commands, which are those of this front. An `Err` means that memory
+    /// ran out; what readings see stays as it is.
+    pub(crate) fn publish<R: Threads + Wait + Sync>(
+        &mut self,
+        rt: &R,
+        threads: usize,
+        front: &Front,
+    ) -> Result<(), AllocError>
         requires opening { front.now.opening ≡ self.old.shown.opening }
         requires all { front.now.commands ≡ self.old.accepted }
         ensures ok { OnOk result (self.new ≡ copies_state front.now front.now.commands) }
@@ -94,13 +117,18 @@ impl Copies {
             self,
             front,
             |copies: Copies, front: &Front| -> (Copies, Result<(), AllocError>)
-                requires { (front.now.opening ≡ copies.shown.opening) × (front.now.commands ≡ copies.accepted) }
+                requires { IsSync R.row × (front.now.opening ≡ copies.shown.opening) × (front.now.commands ≡ copies.accepted) }
                 ensures { MatchResult result.1 (λ _. result.0 ≡ copies_state front.now front.now.commands) (λ _. result.0 ≡ copies) }
-            { copies.published(rt, front) },
+            { copies.published(rt, threads, front) },
         )
     }
 
-    fn published<R: Wait>(self, rt: &R, front: &Front) -> (Copies, Result<(), AllocError>)
+    fn published<R: Threads + Wait + Sync>(
+        self,
+        rt: &R,
+        threads: usize,
+        front: &Front,
+    ) -> (Copies, Result<(), AllocError>)
         requires opening { front.now.opening ≡ self.shown.opening }
         requires all { front.now.commands ≡ self.accepted }
         ensures { MatchResult result.1 (λ _. result.0 ≡ copies_state front.now front.now.commands) (λ _. result.0 ≡ self) }
@@ -110,7 +138,7 @@ impl Copies {
             return (Copies { both, log }, Err(error));
         }
         let (open, mut spare) = both.desk.open(rt);
-        let _ = log.bring_up(&mut *spare, usize::MAX);
+        log.bring_up_all(rt, threads, &mut *spare);
         if !log.is_all_done() {
             both.desk = open.shelve(spare);
             return (Copies { both, log }, Err(AllocError));

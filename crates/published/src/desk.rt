@@ -8,19 +8,20 @@ ghost use Rattle.published.specs.Private.Names.{has_name};
 ghost use Rattle.published.specs.Private.Copies.{copies_state};
 ghost use Rattle.published.specs.Private.DeskParts.{Begins, HasNamesOf};
 ghost use Rattle.published.specs.declared.opening.TheConstants.{MAX_COMMANDS};
-ghost use Rattle.published.specs.Desk.{desk_state, with_command, all_published, IsFull, HasRoom, has_document, returned_bytes, IsPutFault, IsRemoveFault};
+ghost use Rattle.published.specs.Desk.{desk_state, with_command, all_published, IsFull, HasRoom, has_document, IsPutFault, IsRemoveFault};
 
 use crate::batches::{Batch, Front, Head};
 use crate::copies::Copies;
-use crate::error::{PutError, PutErrorKind, RemoveError, Returned};
+use crate::error::{PutError, PutErrorKind, RemoveError};
 use crate::names::Names;
 use crate::shelf::Update;
 use crate::told::Told;
-use index::{Body, Held, Name};
+use index::{Body, Name};
 use logbook::Plain;
 use std::alloc::AllocError;
 use std::marker::Model;
 use std::sync::Wait;
+use std::thread::Threads;
 
 /// The one writer. It accepts commands, which no one sees until it publishes them.
 ///
@@ -37,6 +38,8 @@ pub struct Desk {
     /// The number of accepted commands.
     accepted: u32,
     limit: u32,
+    /// In how many threads a publish analyses bodies at most.
+    threads: usize,
     ghost opening: { copies.shown.opening ≡ front.opening },
     ghost history: { head ≡ head_of front.opening },
     ghost begins: { Begins front.commands copies.accepted },
@@ -73,8 +76,15 @@ impl Plain<Unwritten<'_>, Batch, u64> for Lacks {
 }
 
 impl Desk {
-    /// A desk that has accepted nothing.
-    pub(crate) fn over(copies: Copies, head: Head, front: Front, names: Names, limit: u32) -> Desk
+    /// A desk that has accepted nothing. Its publishes analyse bodies in up to `threads` threads.
+    pub(crate) fn over(
+        copies: Copies,
+        head: Head,
+        front: Front,
+        names: Names,
+        limit: u32,
+        threads: usize,
+    ) -> Desk
         requires copies { copies ≡ copies_state front [] }
         requires head { head ≡ head_of front.opening }
         requires empty { front.commands ≡ [] }
@@ -89,6 +99,7 @@ impl Desk {
             names,
             accepted: 0,
             limit,
+            threads,
         }
     }
 
@@ -113,7 +124,8 @@ impl Desk {
         self.limit
     }
 
-    /// Accepts the put of this name and body, and returns the number of accepted commands, with this one.
+    /// Accepts the put of this name and body, and returns the number of accepted commands, with this one. The body is kept as it
+    /// is; the next publish analyses it.
     ///
     /// An `Err` is the first cause, in the order of `PutErrorKind`, and hands the name and the body back. Nothing has
     /// changed then.
@@ -122,52 +134,48 @@ impl Desk {
         ensures count { IfOk result (λ n. n ≡ length self.new.accepted) }
         ensures err { OnErr result (self.new ≡ self.old) }
         ensures fault { IfErr result (λ e. IsPutFault e.kind self.old) }
-        ensures returned { IfErr result (λ e. (e.name ≡ name) × (returned_bytes e.body ≡ body)) }
+        ensures returned { IfErr result (λ e. (e.name ≡ name) × (e.body ≡ body)) }
     {
         if self.is_full() {
             return Err(PutError {
                 kind: PutErrorKind::Full,
                 name,
-                body: Returned::Plain(body),
+                body,
             });
         }
-        let kind = PutErrorKind::OutOfMemory;
-        match Held::new(body) {
-            Ok(held) => match self.accept_put(&name, &held) {
-                Ok(()) => Ok(self.accepted),
-                Err(_) => Err(PutError {
-                    kind,
-                    name,
-                    body: Returned::Shared(held),
-                }),
-            },
-            Err(refused) => Err(PutError {
-                kind,
+        match self.accept_put(&name, body) {
+            Ok(()) => Ok(self.accepted),
+            Err(body) => Err(PutError {
+                kind: PutErrorKind::OutOfMemory,
                 name,
-                body: Returned::Plain(refused.body),
+                body,
             }),
         }
     }
 
-    fn accept_put(&mut self, name: &Name, held: &Held) -> Result<(), AllocError>
+    /// An `Err` means that memory ran out, or that the name has too many handles. It hands the body back.
+    fn accept_put(&mut self, name: &Name, body: Body) -> Result<(), Body>
         requires { HasRoom self.old }
-        ensures ok { OnOk result (self.new ≡ with_command (put_command name.now held.now) self.old) }
+        ensures ok { OnOk result (self.new ≡ with_command (put_command name.now body) self.old) }
         ensures err { OnErr result (self.new ≡ self.old) }
+        ensures returned { IfErr result (λ returned. returned ≡ body) }
     {
-        let own = name.share()?;
-        let shared = held.share()?;
-        let added = self.names.add(name)?;
-        let update = Update::Put(own, shared);
-        match self.copies.accept(update) {
+        let Ok(own) = name.share() else {
+            return Err(body);
+        };
+        let Ok(added) = self.names.add(name) else {
+            return Err(body);
+        };
+        match self.copies.accept_put(own, body) {
             Ok(()) => {
                 self.accepted += 1;
                 Ok(())
             }
-            Err(error) => {
+            Err(body) => {
                 if added {
                     self.names.remove(name);
                 }
-                Err(error)
+                Err(body)
             }
         }
     }
@@ -205,10 +213,12 @@ impl Desk {
     }
 
     /// Publishes all accepted commands, and returns the `Told` of this publish; with nothing new it publishes the same
-    /// again. It may wait for readings that are taking what a search needs.
+    /// again. Bodies that were put since the last publish are analysed first, side by side in as many threads as the opening has
+    /// readings if they are many bytes. It may wait for readings that are taking what a search needs.
     ///
-    /// An `Err` means that memory ran out, or that a name or a body has too many handles. Nothing has changed then.
-    pub fn publish<R: Wait>(&mut self, rt: &R) -> Result<Told, AllocError>
+    /// An `Err` means that memory ran out, or that a name or a body has too many handles. Nothing has changed then: the commands
+    /// stay accepted, and a later publish can show them.
+    pub fn publish<R: Threads + Wait + Sync>(&mut self, rt: &R) -> Result<Told, AllocError>
         ensures ok { IfOk result (λ told. (self.new ≡ all_published self.old) × (told ≡ known self.old.opening self.old.accepted)) }
         ensures err { OnErr result (self.new ≡ self.old) }
     {
@@ -219,7 +229,7 @@ impl Desk {
             front: front.again(),
         };
         self.front = front;
-        self.copies.publish(rt, &self.front)?;
+        self.copies.publish(rt, self.threads, &self.front)?;
         Ok(told)
     }
 
@@ -241,11 +251,11 @@ impl Desk {
 
     /// Brings the copy of the index that no reading sees further up to date, ahead of the next publish, which then has less to
     /// do. It carries out on it some of the commands that it lacks: first those that are published, then those that are only
-    /// accepted, until the bodies that they bring and take away have about `most` bytes. If `most` is not 0 and anything is
-    /// lacking, it is at least one command. Returns whether more is left; if memory ran out for a command, `false`: that one
-    /// and those after it are left to a later call or publish.
+    /// accepted, up to the first put whose body is not analysed, until the bodies that they bring and take away have about `most`
+    /// bytes. If `most` is not 0 and such a command is lacking, it is at least one. Returns whether more is left; if memory ran
+    /// out for a command, `false`: that one and those after it are left to a later call or publish.
     ///
-    /// If anything is lacking, the first call after a publish waits for readings that are taking what a search needs, as a
+    /// If such a command is lacking, the first call after a publish waits for readings that are taking what a search needs, as a
     /// publish does; the calls after it do not wait.
     pub fn catch_up<R: Wait>(&mut self, rt: &R, most: usize) -> bool
         ensures { self.new ≡ self.old }
@@ -263,6 +273,7 @@ impl Desk {
             names: _,
             accepted: _,
             limit: _,
+            threads: _,
         } = self;
         copies.close(rt);
     }

@@ -1,6 +1,6 @@
 //! Why a call is refused.
 
-use index::{Body, Held, Name};
+use index::{Body, Name};
 use std::alloc::{AllocError, AllocFailed};
 
 /// Why an opening is refused.
@@ -43,15 +43,6 @@ pub enum PutErrorKind {
     OutOfMemory,
 }
 
-/// The body of a put that was refused.
-#[derive(Drop)]
-pub enum Returned {
-    /// As it was handed in.
-    Plain(Body),
-    /// As a shared body of the same bytes, which had been made of it before the refusal.
-    Shared(Held),
-}
-
 /// A put that was refused, with name and body handed back.
 #[derive(Drop)]
 pub struct PutError {
@@ -60,7 +51,7 @@ pub struct PutError {
     /// The name that was handed in.
     pub name: Name,
     /// The body that was handed in.
-    pub body: Returned,
+    pub body: Body,
 }
 
 /// Why a remove is refused. The causes are checked in this order.

@@ -10,6 +10,8 @@ mod copies;
 mod counts;
 mod desk;
 mod error;
+mod filling;
+mod incoming;
 mod laws;
 mod log;
 mod names;
@@ -21,7 +23,7 @@ mod told;
 
 pub use counts::Counts;
 pub use desk::Desk;
-pub use error::{OpenError, PutError, PutErrorKind, RemoveError, Returned};
+pub use error::{OpenError, PutError, PutErrorKind, RemoveError};
 pub use laws::faults_are_one;
 pub use opening::{MAX_COMMANDS, MAX_READINGS, open, open_with_places};
 pub use reading::Reading;

@@ -1,11 +1,17 @@
 //! The operations that one of the two copies lacks.
 
-ghost use Rattle.std.specs.Prelude.{◌≡◌, ◌<◌, ◌≤◌, [], ◌∷◌, ◌++◌, length, fold, take, IfOk, OnOk, OnErr, MatchBool};
+ghost use Rattle.std.specs.Prelude.{◌≡◌, ◌<◌, ◌≤◌, [], ◌∷◌, ◌++◌, length, fold, take, IfOk, IfErr, OnOk, OnErr, MatchBool};
+ghost use Rattle.published.specs.declared.shelf.Operation.TheVariants.{Change};
+ghost use Rattle.published.specs.declared.shelf.Update.TheVariants.{Put as put_update};
 ghost use Rattle.published.specs.Private.Shelf.{operated};
 
-use crate::shelf::{Operation, Shelf};
+use crate::filling::fill;
+use crate::incoming::Incoming;
+use crate::shelf::{Operation, Shelf, Update};
+use index::{Body, Name};
 use std::alloc::{AllocError, Global};
 use std::collections::VecDeque;
+use std::thread::Threads;
 
 /// The operations that one of the two copies lacks, each in the order in which they came.
 #[derive(Drop)]
@@ -45,6 +51,29 @@ impl Log {
         }
     }
 
+    /// Adds the put of this name and body, which neither copy has. An `Err` means that memory ran out, and hands the body back.
+    pub(crate) fn add_put(&mut self, name: Name, body: Body) -> Result<(), Body>
+        ensures ok { OnOk result (self.new.pending.items ≡ self.old.pending.items ++ Change (put_update name body) ∷ []) }
+        ensures err { OnErr result (self.new.pending.items ≡ self.old.pending.items) }
+        ensures returned { IfErr result (λ returned. returned ≡ body) }
+        ensures step { (shown spare : Shelf) → InStep shown spare self.old → InStep shown spare self.new }
+    {
+        if self.pending.reserve(1).is_err() {
+            return Err(body);
+        }
+        let update = Update::Put(name, Incoming::new(body));
+        self.pending.push_back_reserved(Operation::Change(update));
+        Ok(())
+    }
+
+    /// Whether the operation that the spare copy lacks first can be carried out: a body that it brings is analysed.
+    pub(crate) fn is_ready(&self) -> bool {
+        match self.behind.front().or(self.pending.get(self.ahead)) {
+            Some(next) => next.is_ready(),
+            None => false,
+        }
+    }
+
     /// Whether the spare copy has each operation.
     pub(crate) fn is_all_done(&self) -> bool
         ensures { MatchBool result (IsAllDone self.now) Unit }
@@ -54,7 +83,7 @@ impl Log {
 
     /// Carries out on the spare copy what it lacks, the first operation first, until that comes to about `most` bytes of
     /// bodies. Returns how much of `most` is left; if that is not 0, the copy has each operation. An `Err` means that memory
-    /// ran out for an operation, which stays in the log with those after it.
+    /// ran out for an operation, or that its body is not analysed; it stays in the log with those after it.
     pub(crate) fn bring_up(&mut self, spare: &mut Shelf, most: usize) -> Result<usize, AllocError>
         ensures step { (shown : Shelf) → InStep shown spare.old self.old → InStep shown spare.new self.new }
         ensures pending { self.new.pending.items ≡ self.old.pending.items }
@@ -63,6 +92,24 @@ impl Log {
             Ok(0) => Ok(0),
             Ok(left) => run_ahead(spare, &self.pending, &mut self.ahead, left),
             Err(error) => Err(error),
+        }
+    }
+
+    /// Carries out on the spare copy all that it lacks, in up to `threads` threads, after bodies are analysed that are not yet. If
+    /// memory runs out for an operation, that one and those after it stay in the log.
+    pub(crate) fn bring_up_all<R: Threads + Sync>(
+        &mut self,
+        rt: &R,
+        threads: usize,
+        spare: &mut Shelf,
+    )
+        ensures step { (shown : Shelf) → InStep shown spare.old self.old → InStep shown spare.new self.new }
+        ensures pending { self.new.pending.items ≡ self.old.pending.items }
+    {
+        match make_up(spare, &mut self.behind, usize::MAX) {
+            Ok(0) => {}
+            Ok(_) => self.ahead = fill_ahead(rt, threads, spare, &mut self.pending, self.ahead),
+            Err(_) => {}
         }
     }
 
@@ -132,4 +179,22 @@ fn run_ahead(
         left = left.saturating_sub(work);
     }
     Ok(0)
+}
+
+/// Carries out what neither copy has, where the spare one has the first `ahead` of these operations. Returns how many it has then.
+fn fill_ahead<R: Threads + Sync>(
+    rt: &R,
+    threads: usize,
+    spare: &mut Shelf,
+    pending: &mut VecDeque<Operation>,
+    ahead: usize,
+) -> usize
+    requires { ahead ≤ length pending.old.items }
+    ensures same { pending.new.items ≡ pending.old.items }
+    ensures within { result ≤ length pending.old.items }
+    ensures step { (shown : Shelf) → spare.old ≡ fold operated shown (take ahead pending.old.items)
+        → spare.new ≡ fold operated shown (take result pending.old.items) }
+{
+    let (_, lacking) = pending.make_contiguous().split_at_mut(ahead);
+    ahead + fill(rt, threads, spare, lacking)
 }

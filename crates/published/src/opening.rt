@@ -66,7 +66,8 @@ pub fn open_with_places<R: Wait>(
     match readings(alloc, &mut both, &front, readers) {
         Ok(readings) => {
             let copies = Copies::over(alloc, both);
-            let desk = Desk::over(copies, head, front, Names::new(alloc), max_commands);
+            let names = Names::new(alloc);
+            let desk = Desk::over(copies, head, front, names, max_commands, readers);
             Ok((desk, readings))
         }
         Err(error) => {

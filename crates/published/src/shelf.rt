@@ -6,7 +6,8 @@ ghost use Rattle.index.specs.State.{applied};
 ghost use Rattle.published.specs.Private.Shelf.{command_of};
 
 use crate::batches::Front;
-use index::{Held, Index, Name};
+use crate::incoming::Incoming;
+use index::{Index, Name};
 use left_right::Absorb;
 use std::alloc::AllocError;
 
@@ -17,7 +18,7 @@ const LEAST_WORK: usize = 256;
 #[derive(Drop)]
 pub enum Update {
     /// A put of this name and body.
-    Put(Name, Held),
+    Put(Name, Incoming),
     /// A remove of this name.
     Remove(Name),
 }
@@ -54,10 +55,40 @@ impl Absorb<()> for Shelf {
     }
 }
 
+impl Operation {
+    /// Finds the trigrams of the body that it brings, if it brings one, unless that is done or memory runs out.
+    pub(crate) fn analyse(&mut self)
+        ensures { self.new ≡ self.old }
+    {
+        if let Operation::Change(Update::Put(_, incoming)) = self {
+            incoming.analyse();
+        }
+    }
+
+    /// The bytes of the body that it brings, if that is not analysed yet.
+    pub(crate) fn bytes_to_analyse(&self) -> usize {
+        match self {
+            Operation::Change(Update::Put(_, incoming)) if incoming.held().is_none() => {
+                incoming.len()
+            }
+            _ => 0,
+        }
+    }
+
+    /// Whether it can be carried out: a body that it brings is analysed.
+    pub(crate) fn is_ready(&self) -> bool {
+        match self {
+            Operation::Change(Update::Put(_, incoming)) => incoming.held().is_some(),
+            _ => true,
+        }
+    }
+}
+
 impl Shelf {
     ghost use Rattle.published.specs.Private.Shelf.{operated};
 
-    /// Carries out the operation. After an `Err`, which means that memory ran out, nothing has changed.
+    /// Carries out the operation. After an `Err`, which means that memory ran out or that a body is not analysed, nothing has
+    /// changed.
     pub(crate) fn carry_out(&mut self, operation: &Operation) -> Result<(), AllocError>
         ensures ok { OnOk result (self.new ≡ operated self.old operation.now) }
         ensures err { OnErr result (self.new ≡ self.old) }
@@ -73,11 +104,9 @@ impl Shelf {
     /// `LEAST_WORK` more.
     pub(crate) fn work(&self, operation: &Operation) -> usize {
         let bytes = match operation {
-            Operation::Change(Update::Put(name, held)) => held
-                .body()
-                .as_bytes()
-                .len()
-                .saturating_add(self.bytes_of(name)),
+            Operation::Change(Update::Put(name, incoming)) => {
+                incoming.len().saturating_add(self.bytes_of(name))
+            }
             Operation::Change(Update::Remove(name)) => self.bytes_of(name),
             Operation::Stamp(_) => 0,
         };
@@ -96,8 +125,8 @@ impl Shelf {
     }
 }
 
-/// Carries out the command. It is refused if memory ran out, or if the index takes no more commands, which no desk
-/// meets.
+/// Carries out the command. It is refused if memory ran out, for its analysis too, or if the index takes no more commands,
+/// which no desk meets.
 fn change(index: &mut Index, update: &Update) -> Result<(), AllocError>
     ensures ok { OnOk result (index.new ≡ applied (command_of update.now) index.old) }
     ensures err { OnErr result (index.new ≡ index.old) }
@@ -106,7 +135,10 @@ fn change(index: &mut Index, update: &Update) -> Result<(), AllocError>
         return Err(AllocError);
     }
     match update {
-        Update::Put(name, held) => index.apply_put(name, held),
+        Update::Put(name, incoming) => match incoming.held() {
+            Some(held) => index.apply_put(name, held),
+            None => Err(AllocError),
+        },
         Update::Remove(name) => index.remove(name),
     }
 }

@@ -39,8 +39,8 @@ use Rattle.steps.specs.Asked.{Asks, IsFaultOf}
 use Rattle.steps.specs.Steps.{OpenSearch, MayTake, last, last_of, asked}
 use Rattle.steps.specs.Asked as asking
 use Rattle.steps.specs.Steps as steps
-use Rattle.service.specs.declared.taken.Taken.{Taken}
-use Rattle.service.specs.declared.taken.Taken.TheVariants as taken_as
+use Rattle.service.specs.declared.reply.Reply.{Reply}
+use Rattle.service.specs.declared.reply.Reply.TheVariants as taken_as
 use Rattle.service.specs.Service.{ServiceState, run_of, Fits, Steps, Takes, Gives, answered, not_answered, too_slow, CanStand, versions_in, written_by, failures_by, IsCounted, IsKind, HasNumber}
 use Rattle.service.specs.Private.Items.{IsEntered, IsLeft, Tells, all, nothing}
 use Rattle.service.specs.Opening.{limits_of}
@@ -154,7 +154,7 @@ fits_still was after published told kept fits = record {
 }
 
 -- a search is open, or refused
-pub asked_takes : (Holds : List ℕ → List ℕ → Type 0) (old : ServiceState) (item : Numbered) (result : Taken) (new : ServiceState)
+pub asked_takes : (Holds : List ℕ → List ℕ → Type 0) (old : ServiceState) (item : Numbered) (result : Reply) (new : ServiceState)
     → IsAsked item.item old result new → Takes Holds old item (written_by result) new
 asked_takes Holds old item result new (asked_for request asks is after) published readers fits may = rw (is, after) (record {
   step =
@@ -172,19 +172,19 @@ asked_takes Holds old item result new (refused why fault is) published readers f
 })
 
 -- the task of an open search has its number
-pub asked_number : (item : Item) (old : ServiceState) (result : Taken) (new : ServiceState) → IsAsked item old result new
+pub asked_number : (item : Item) (old : ServiceState) (result : Reply) (new : ServiceState) → IsAsked item old result new
     → HasNumber new.searches result
 asked_number item old result new (asked_for request asks is after) = rw (is, after) refl
 asked_number item old result new (refused why fault is) = rw is.entry tt
 
 -- only a search is open, or has the entry of a search
-pub asked_kind : (item : Item) (old : ServiceState) (result : Taken) (new : ServiceState) → IsAsked item old result new → searches_of item ≡ 1
+pub asked_kind : (item : Item) (old : ServiceState) (result : Reply) (new : ServiceState) → IsAsked item old result new → searches_of item ≡ 1
     → IsKind item result
 asked_kind item old result new (asked_for request asks is after) one = rw is one
 asked_kind item old result new (refused why fault is) one = rw is.entry (sym one)
 
 -- a search is no load
-pub asked_unfailed : (item : Item) (old : ServiceState) (result : Taken) (new : ServiceState) → IsAsked item old result new → failures_by result ≡ 0
+pub asked_unfailed : (item : Item) (old : ServiceState) (result : Reply) (new : ServiceState) → IsAsked item old result new → failures_by result ≡ 0
 asked_unfailed item old result new (asked_for request asks is after) = rw is refl
 asked_unfailed item old result new (refused why fault is) = rw is.entry refl
 
@@ -193,7 +193,7 @@ pub counted_zero : (n failed failed' : ℕ) → n ≡ 0 → failed' ≡ failed �
 counted_zero n failed failed' none same = record { rises = inl (omega (arith, none, same)); stays = λ full. same ∙ full }
 
 -- of other items there is no task
-pub no_number : (searches : ℕ) (item : Item) (result : Taken) → searches_of item ≡ 0 → IsKind item result → HasNumber searches result
+pub no_number : (searches : ℕ) (item : Item) (result : Reply) → searches_of item ≡ 0 → IsKind item result → HasNumber searches result
 no_number searches item (taken_as.Entry entry) none kind = tt
 no_number searches item (taken_as.Search number) none kind = absurd (omega (arith, none, kind))
 no_number searches item (taken_as.Cancelled entry) none kind = tt
@@ -211,7 +211,7 @@ sync_takes Holds old item is published readers fits may = record {
     nothing_open (steps.beside some no_sync) = let opposite = sym is ∙ no_sync in cc
 
 -- a cancel closes an open search, or does nothing, or is refused
-pub cancel_takes : (Holds : List ℕ → List ℕ → Type 0) (old : ServiceState) (taken : Numbered) (number : ℕ) (result : Taken) (new : ServiceState)
+pub cancel_takes : (Holds : List ℕ → List ℕ → Type 0) (old : ServiceState) (taken : Numbered) (number : ℕ) (result : Reply) (new : ServiceState)
     → taken.item ≡ item.cancel number → IsCancelled taken.line number old result new → Takes Holds old taken (written_by result) new
 cancel_takes Holds old taken number result new asks (given_up place entry found same is) published readers fits may =
     rw (is, found.refused, found.left) (record {

@@ -7,8 +7,8 @@ use Rattle.prepare.specs.Request.{Request}
 use Rattle.search.specs.Shown.{IsShownOf}
 use Rattle.views.specs.Shown.{Shown}
 use Rattle.script.specs.Items.{Item, Numbered}
-use Rattle.service.specs.declared.taken.Taken.{Taken}
-use Rattle.service.specs.declared.taken.Taken.TheVariants as taken
+use Rattle.service.specs.declared.reply.Reply.{Reply}
+use Rattle.service.specs.declared.reply.Reply.TheVariants as reply
 use Rattle.transcript.specs.declared.entry.Entry.{Entry}
 use Rattle.transcript.specs.declared.entry.Entry.TheVariants.{Found, SearchRefused}
 use Rattle.transcript.specs.declared.entry.SearchReason.TheVariants as reason
@@ -103,15 +103,15 @@ pub data Gives (old : ServiceState) (entry : Entry) (new : ServiceState) : Type 
       → new ≡ record old { awaited = take place old.awaited ++ drop (place + 1) old.awaited } → Gives old entry new
 
 -- the entries that an item has at once
-abbrev pub written_by : Taken → List Entry
-written_by (taken.Entry entry) = entry ∷ []
-written_by (taken.Search task) = []
-written_by (taken.Cancelled entry) = entry ∷ []
-written_by taken.Nothing = []
+abbrev pub written_by : Reply → List Entry
+written_by (reply.Entry entry) = entry ∷ []
+written_by (reply.Search task) = []
+written_by (reply.Cancelled entry) = entry ∷ []
+written_by reply.Nothing = []
 
 -- The task of a search has its number: so many searches have been taken by then.
-abbrev pub HasNumber : ℕ → Taken → Type 0
-HasNumber searches (taken.Search number) = number ≡ searches
+abbrev pub HasNumber : ℕ → Reply → Type 0
+HasNumber searches (reply.Search number) = number ≡ searches
 HasNumber searches result = Unit {0}
 
 -- A source's count rose by this number of failures, and no longer changes once it is the greatest.
@@ -120,15 +120,15 @@ pub record IsCounted (failures failed failed' : ℕ) : Type 0 where
   pub stays : failed ≡ greatest_failures → failed' ≡ greatest_failures
 
 -- how many loads failed
-abbrev pub failures_by : Taken → ℕ
-failures_by (taken.Entry entry) = failures_in (Some entry)
-failures_by (taken.Search task) = 0
-failures_by (taken.Cancelled entry) = failures_in (Some entry)
-failures_by taken.Nothing = 0
+abbrev pub failures_by : Reply → ℕ
+failures_by (reply.Entry entry) = failures_in (Some entry)
+failures_by (reply.Search task) = 0
+failures_by (reply.Cancelled entry) = failures_in (Some entry)
+failures_by reply.Nothing = 0
 
 -- Only a search is open, or has an entry of a search. Only an item that is no search gives a search its entry.
-abbrev pub IsKind : Item → Taken → Type 0
-IsKind item (taken.Entry entry) = searches_in entry ≡ searches_of item
-IsKind item (taken.Search task) = searches_of item ≡ 1
-IsKind item (taken.Cancelled entry) = (searches_of item ≡ 0) × (searches_in entry ≡ 1)
-IsKind item taken.Nothing = searches_of item ≡ 0
+abbrev pub IsKind : Item → Reply → Type 0
+IsKind item (reply.Entry entry) = searches_in entry ≡ searches_of item
+IsKind item (reply.Search task) = searches_of item ≡ 1
+IsKind item (reply.Cancelled entry) = (searches_of item ≡ 0) × (searches_in entry ≡ 1)
+IsKind item reply.Nothing = searches_of item ≡ 0

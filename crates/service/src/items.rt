@@ -20,6 +20,7 @@ use input::{OwnedItem, ReadItem};
 use published::{Desk, PutErrorKind, RemoveError, Told};
 use std::alloc::Global;
 use std::sync::Wait;
+use std::thread::Threads;
 use transcript::{Entry, Reason};
 
 /// Why a line with this name is refused: the name is invalid, or memory ran out.
@@ -145,7 +146,11 @@ fn entry_of(line: u32, done: Result<u32, Reason>) -> Entry
 }
 
 /// Publishes all accepted commands, and keeps what the publish hands out in `told`. Returns the version.
-fn publish<R: Wait>(rt: &R, desk: &mut Desk, told: &mut Told) -> Result<u32, Reason>
+fn publish<R: Threads + Wait + Sync>(
+    rt: &R,
+    desk: &mut Desk,
+    told: &mut Told,
+) -> Result<u32, Reason>
     ensures ok { IfOk result (λ version. (version ≡ length desk.old.accepted) × (told.new ≡ known desk.old.opening desk.old.accepted)
         × (desk.new.published ≡ desk.old.accepted)) }
     ensures err { IfErr result (λ reason. (reason ≡ Reason.OutOfMemory) × (told.new ≡ told.old) × (desk.new.published ≡ desk.old.published)) }
@@ -188,7 +193,7 @@ pub enum Outcome {
 
 /// Carries out an item at the desk, and keeps what a publish hands out in `told`. Searches, syncs, cancels and statuses are
 /// left to the caller.
-pub fn carry_out<R: Wait, S: Source>(
+pub fn carry_out<R: Threads + Wait + Sync, S: Source>(
     rt: &R,
     alloc: Global,
     desk: &mut Desk,

@@ -16,6 +16,7 @@ use std::alloc::{AllocError, Global};
 use std::collections::VecDeque;
 use std::marker::{Model, PhantomData};
 use std::sync::Wait;
+use std::thread::Threads;
 use steps::Last;
 
 /// A desk and its readings, before the first item. They have no name in types yet. Contracts see them as their opening, its
@@ -47,7 +48,7 @@ impl Model for Opened {
 /// reader 0 (0 to 16), in which a search has at most `search_ms` milliseconds, if there is such a limit.
 ///
 /// `NoPlace` means that a reader got no place, and `OutOfMemory` that memory ran out.
-pub fn open<R: Wait>(
+pub fn open<R: Threads + Wait + Sync>(
     rt: &R,
     alloc: Global,
     max_commands: u32,

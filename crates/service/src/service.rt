@@ -25,8 +25,8 @@ use crate::naming::Naming;
 use crate::open_search::OpenSearch;
 use crate::question::Question;
 use crate::reader::{NoGate, search};
+use crate::reply::Reply;
 use crate::source::Source;
-use crate::taken::Taken;
 use crate::tasks::{Request, Task};
 use crate::wish::{Look, Wish};
 use input::ReadItem;
@@ -37,6 +37,7 @@ use std::alloc::{AllocError, Global};
 use std::collections::VecDeque;
 use std::marker::{Model, PhantomData};
 use std::sync::Wait;
+use std::thread::Threads;
 use std::time::Clock;
 use steps::Last;
 use transcript::{Entry, Reason, SearchReason};
@@ -135,13 +136,13 @@ impl<J: Naming> Service<J> {
 
     /// Takes the next item. Only a load asks the source, and only once. The step is legal if `MayTake` allows it: a sync needs
     /// that no search is open, and without readers every item does.
-    pub fn take<R: Wait + Clock, S: Source>(
+    pub fn take<R: Threads + Wait + Clock + Sync, S: Source>(
         &mut self,
         rt: &R,
         alloc: Global,
         source: &mut S,
         read: ReadItem,
-    ) -> Taken
+    ) -> Reply
         requires { self.old.searches + 1 < 2 ^ 32 }
         ensures takes { (shown : Item) → ShowsOwned read.item shown
             → Takes (S.holds source.old) self.old (numbered read.line shown) (written_by result) self.new }
@@ -157,12 +158,12 @@ impl<J: Naming> Service<J> {
         match carry_out(rt, alloc, &mut self.desk, &mut self.told, source, read) {
             Outcome::Entry(entry) => {
                 self.note(&entry);
-                Taken::Entry(entry)
+                Reply::Entry(entry)
             }
             Outcome::Search(question) => self.ask(rt, alloc, question),
-            Outcome::Sync => Taken::Nothing,
+            Outcome::Sync => Reply::Nothing,
             Outcome::Cancel(number) => self.cancel(line, number),
-            Outcome::Status => Taken::Entry(self.status(rt, line)),
+            Outcome::Status => Reply::Entry(self.status(rt, line)),
         }
     }
 
@@ -187,7 +188,7 @@ impl<J: Naming> Service<J> {
     }
 
     /// Takes a search: it is open then, or refused.
-    fn ask<R: Clock>(&mut self, rt: &R, alloc: Global, question: Question) -> Taken
+    fn ask<R: Clock>(&mut self, rt: &R, alloc: Global, question: Question) -> Reply
         requires few { self.old.searches + 1 < 2 ^ 32 }
         requires search { searches_of question ≡ 1 }
         ensures { IsAsked question self.old result self.new }
@@ -199,19 +200,19 @@ impl<J: Naming> Service<J> {
     }
 
     /// Takes a search, which is refused.
-    fn refuse(&mut self, reason: SearchReason) -> Taken
+    fn refuse(&mut self, reason: SearchReason) -> Reply
         requires few { self.old.searches + 1 < 2 ^ 32 }
         ensures { IsRefused reason self.old result self.new }
     {
         self.searches += 1;
-        Taken::Entry(Entry::SearchRefused {
+        Reply::Entry(Entry::SearchRefused {
             search: self.searches,
             reason,
         })
     }
 
     /// Takes a search whose patterns were read: it is open then, or refused for memory.
-    fn open<R: Clock>(&mut self, rt: &R, alloc: Global, request: Request) -> Taken
+    fn open<R: Clock>(&mut self, rt: &R, alloc: Global, request: Request) -> Reply
         requires few { self.old.searches + 1 < 2 ^ 32 }
         requires search { searches_of request.item ≡ 1 }
         ensures { IsAsked request.item self.old result self.new }
@@ -220,7 +221,7 @@ impl<J: Naming> Service<J> {
             return self.refuse(SearchReason::OutOfMemory);
         };
         match self.await_answer(alloc, &request.question, &wish) {
-            Ok(number) => Taken::Search(Task {
+            Ok(number) => Reply::Search(Task {
                 number,
                 request,
                 wish,
@@ -266,14 +267,14 @@ impl<J: Naming> Service<J> {
     }
 
     /// Takes a cancel of the search with this number: if it is open, it is refused now, and its reader gives it up.
-    fn cancel(&mut self, line: u32, number: u32) -> Taken
+    fn cancel(&mut self, line: u32, number: u32) -> Reply
         ensures cancelled { IsCancelled line number self.old result self.new }
         ensures kind { IsKind (cancel_item number) result }
         ensures no_failure { failures_by result ≡ 0 }
         ensures searches { self.new.searches ≡ self.old.searches }
     {
         if number == 0 || number > self.searches {
-            return Taken::Entry(Entry::Refused {
+            return Reply::Entry(Entry::Refused {
                 line,
                 reason: Reason::NoSuchSearch,
             });
@@ -282,9 +283,9 @@ impl<J: Naming> Service<J> {
             Some(place) => {
                 let search = &self.awaited[place];
                 search.wish.call_off();
-                Taken::Cancelled(self.refuse_at(place, SearchReason::Cancelled))
+                Reply::Cancelled(self.refuse_at(place, SearchReason::Cancelled))
             }
-            None => Taken::Nothing,
+            None => Reply::Nothing,
         }
     }
 

@@ -10,7 +10,7 @@ use crate::crew::{Crew, Event};
 use crate::error::{LiveError, of_inbox, of_reading};
 use crate::sink::{News, Sink};
 use input::{Inbox, ReadItem};
-use service::{Done, Service, Source, Taken, Task};
+use service::{Done, Reply, Service, Source, Task};
 use std::alloc::Global;
 use std::io::BufRead;
 use std::sync::Wait;
@@ -234,13 +234,13 @@ fn take<
     ensures counted { S.failed source.old ≤ S.failed source.new }
 {
     match service.take(plan.rt, plan.alloc, source, read) {
-        Taken::Entry(entry) => sink.note(plan.rt, plan.alloc, News::Entry(entry), out),
-        Taken::Search(task) => {
+        Reply::Entry(entry) => sink.note(plan.rt, plan.alloc, News::Entry(entry), out),
+        Reply::Search(task) => {
             sink.note(plan.rt, plan.alloc, News::Open(service.searches()), out)?;
             hand_out(plan, service, crew, sink, out, task)
         }
-        Taken::Cancelled(entry) => sink.note(plan.rt, plan.alloc, News::Answer(entry), out),
-        Taken::Nothing => Ok(()),
+        Reply::Cancelled(entry) => sink.note(plan.rt, plan.alloc, News::Answer(entry), out),
+        Reply::Nothing => Ok(()),
     }
 }
 

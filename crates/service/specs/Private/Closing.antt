@@ -18,8 +18,8 @@ use Rattle.transcript.specs.declared.entry.SearchReason.TheVariants as search_re
 use Rattle.service.specs.Collected.{number_in}
 use Rattle.service.specs.Opening.{limits_of}
 use Rattle.service.specs.Service.{ServiceState, CanStand}
-use Rattle.service.specs.declared.taken.Taken.{Taken}
-use Rattle.service.specs.declared.taken.Taken.TheVariants as taken
+use Rattle.service.specs.declared.reply.Reply.{Reply}
+use Rattle.service.specs.declared.reply.Reply.TheVariants as reply
 
 -- What holds of every service.
 pub record IsService (service : ServiceState) : Type 0 where
@@ -63,13 +63,13 @@ with_search item service = record service {
 }
 
 -- one more search was taken, and is refused
-pub record IsRefused (why : SearchReason) (old : ServiceState) (result : Taken) (new : ServiceState) : Type 0 where
-  pub entry : result ≡ taken.Entry (SearchRefused (old.searches + 1) why)
+pub record IsRefused (why : SearchReason) (old : ServiceState) (result : Reply) (new : ServiceState) : Type 0 where
+  pub entry : result ≡ reply.Entry (SearchRefused (old.searches + 1) why)
   pub left : new ≡ record old { searches = old.searches + 1 }
 
 -- A search was taken: it is open, and asks for something; or it is refused.
-pub data IsAsked (item : Item) (old : ServiceState) (result : Taken) (new : ServiceState) : Type 0 where
-  asked_for : (request : Request) → Asks item request → result ≡ taken.Search (old.searches + 1) → new ≡ with_search item old
+pub data IsAsked (item : Item) (old : ServiceState) (result : Reply) (new : ServiceState) : Type 0 where
+  asked_for : (request : Request) → Asks item request → result ≡ reply.Search (old.searches + 1) → new ≡ with_search item old
       → IsAsked item old result new
   refused : (why : SearchReason) → IsFaultOf item why → IsRefused why old result new → IsAsked item old result new
 
@@ -91,9 +91,9 @@ pub record IsGivenUp (place : ℕ) (why : SearchReason) (old : ServiceState) (en
   pub left : new ≡ record old { awaited = take place old.awaited ++ drop (place + 1) old.awaited }
 
 -- A cancel was taken: of an open search, of one that has its entry, or of one that was never asked.
-pub data IsCancelled (line number : ℕ) (old : ServiceState) (result : Taken) (new : ServiceState) : Type 0 where
+pub data IsCancelled (line number : ℕ) (old : ServiceState) (result : Reply) (new : ServiceState) : Type 0 where
   given_up : (place : ℕ) (entry : Entry) → (found : IsGivenUp place search_reason.Cancelled old entry new) → found.search.number ≡ number
-      → result ≡ taken.Cancelled entry → IsCancelled line number old result new
-  too_late : WasAsked number old.searches → All (λ search. search.number ≢ number) old.awaited → result ≡ taken.Nothing → new ≡ old
+      → result ≡ reply.Cancelled entry → IsCancelled line number old result new
+  too_late : WasAsked number old.searches → All (λ search. search.number ≢ number) old.awaited → result ≡ reply.Nothing → new ≡ old
       → IsCancelled line number old result new
-  no_such_search : WasNotAsked number old.searches → result ≡ taken.Entry (Refused line NoSuchSearch) → new ≡ old → IsCancelled line number old result new
+  no_such_search : WasNotAsked number old.searches → result ≡ reply.Entry (Refused line NoSuchSearch) → new ≡ old → IsCancelled line number old result new

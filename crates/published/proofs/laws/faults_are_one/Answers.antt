@@ -1,4 +1,4 @@
-use Rattle.std.proofs.Common.{◌∙◌, refl, sym, arith, true, false, true≢false}
+use Rattle.std.proofs.Common.{◌∙◌, refl, sym, arith, true≢false}
 use Rattle.published.specs.Desk.{DeskState, IsFull, HasRoom}
 use Rattle.published.specs.Laws.{PutFaultsAreOne, RemoveFaultsAreOne}
 use Rattle.published.specs.declared.error.PutErrorKind.TheVariants as put_error

@@ -12,8 +12,8 @@ returns-then-not-is_all_done g c =
     let i = c.self.inside in
     let shown = i.both.desk.shown.value in
     let same : c.shelve.result.shown.value ≡ shown = search rules in
-    ap (λ s. copies_of s c.bring_up.new.self.pending.items) same
-    ∙ (ap (copies_of shown) (c.bring_up.ensures.pending ∙ c.in_default.ensures.ok)
+    ap (λ s. copies_of s c.bring_up_all.new.self.pending.items) same
+    ∙ (ap (copies_of shown) (c.bring_up_all.ensures.pending ∙ c.in_default.ensures.ok)
     ∙ (ap (copies_state shown.front) (accepted_of-stamp shown i.log.pending.items c.again.result) ∙ c.self.view_is))
 
 pub show_as-requires : goal.show_as-requires
@@ -21,7 +21,7 @@ show_as-requires g c =
     let i = c.self.inside in
     let shown = i.both.desk.shown.value in
     let pending = i.log.pending.items in
-    let up = c.bring_up in
+    let up = c.bring_up_all in
     let same : c.open-open.result.0.shown.value ≡ shown = search rules in
     let at : c.deref_mut.result.now ≡ i.both.desk.spare.value = search rules in
     let done : IsAllDone up.new.self = search rules in
@@ -36,7 +36,7 @@ pub invariant_of-result-2 : goal.invariant_of-result-2
 invariant_of-result-2 g c =
     let i = c.self.inside in
     let shown = i.both.desk.shown.value in
-    let up = c.bring_up in
+    let up = c.bring_up_all in
     let at : c.deref_mut.result.now ≡ i.both.desk.spare.value = search rules in
     let done : IsAllDone up.new.self = search rules in
     let step = up.ensures.step shown (subst (λ s. InStep shown s c.add.new.self) (sym at) (c.add.ensures.step shown i.both.desk.spare.value i.in_step)) in

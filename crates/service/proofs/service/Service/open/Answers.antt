@@ -2,7 +2,7 @@ use Rattle.std.proofs.Common.{◌≡◌, ap, subst}
 use Rattle.transcript.specs.declared.entry.SearchReason.TheVariants.{OutOfMemory}
 use Rattle.prepare.specs.Prepared.{request_of}
 use Rattle.steps.specs.Asked.{Asks}
-use Rattle.service.specs.declared.taken.Taken.TheVariants.{Search}
+use Rattle.service.specs.declared.reply.Reply.TheVariants.{Search}
 use Rattle.service.specs.Private.Closing.{IsRefused, asked_for, refused, with_search}
 use Rattle.service.proofs.ServiceLemmas.{memory_is_fault}
 use Rattle.service.proofs.service.Service.open.Goals as goal

@@ -5,7 +5,7 @@ use transcript::Entry;
 
 /// What became of an item.
 #[derive(Drop)]
-pub enum Taken {
+pub enum Reply {
     /// It has its entry.
     Entry(Entry),
     /// It is a search, which is open now. A reader is to answer it, or `Service::answer_here`.
