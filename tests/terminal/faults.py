@@ -683,6 +683,23 @@ def a_slow_search_is_given_up(place):
     place.wants(["--search-ms", "50", r"x([ab]|a([ab]{250}){15}c|d$)*e|(.*.*){60}=$"], 2, b"", b"too slow")
 
 
+def watchman_that_comes_later(place):
+    """The server tries again."""
+    watchman = shutil.which("watchman")
+    if not watchman:
+        return
+    told = subprocess.run([watchman, "--no-pretty", "get-sockname"], capture_output=True, check=True, env=place.environment)
+    place.environment.update({"TGREP_LOOK": "0.1", "WATCHMAN_SOCK": f"{place.environment['HOME']}/socket"})
+    place.write("a", b"foo\n")
+    place.wants(["foo"], 0, b"a:1:foo\n")
+    if b"by looking through the folder" not in place.call("--status")[1]:
+        raise Wrong("it is watched")
+    os.symlink(json.loads(told.stdout)["sockname"], place.environment["WATCHMAN_SOCK"])
+    until(lambda: b"by watchman" in place.call("--status")[1])
+    place.write("a", b"foo again\n")
+    place.wants(["foo"], 0, b"a:1:foo again\n")
+
+
 def it_looks_through_the_folder_without_watchman(place):
     """As --status says; a terminal is told once (screen.py)."""
     stub = pathlib.Path(place.environment["HOME"], "stub")
@@ -788,6 +805,7 @@ TESTS = [
     trees_beside_each_other,
     a_slow_search_is_given_up,
     it_looks_through_the_folder_without_watchman,
+    watchman_that_comes_later,
     each_use_is_counted,
 ]
 

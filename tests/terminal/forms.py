@@ -1,9 +1,12 @@
 """Forms of tgrep beside those of rg, byte by byte: colours, headings, JSON; what is refused, and what its refusals say; the pages; and the
 package, which is installed without a network."""
 
+import contextlib
 import json
 import os
+import pty
 import re
+import select
 import shutil
 import subprocess
 import sys
@@ -11,7 +14,7 @@ import tempfile
 
 from built import TOP
 from counted import Counted, Wrong
-from terminal.trees import environment_in, make_trees, run, stop_all
+from terminal.trees import SECONDS, environment_in, make_trees, run, stop_all
 
 RG = ["--sort=path", "--no-unicode", "--hidden"]
 SAME = [
@@ -50,8 +53,19 @@ SAME = [
         --type-add x:*.x -e foo src""".split(),
     "--column --line-number --no-heading --color=always --smart-case -- foo src".split(),
     "--vimgrep --no-heading --smart-case foo src".split(),
+    # matches that are empty
+    ["--vimgrep", "o*", "src"],
+    ["--vimgrep", "^|o", "src"],
+    ["--vimgrep", "$", "src/a.c"],
+    ["--count-matches", "o*", "src"],
+    ["--count-matches", "-x", "o*", "README.md", "src"],
+    ["-n", "--no-heading", "--column", "o*", "src"],
+    ["-n", "--no-heading", "--column", "-C1", "o*$", "src"],
+    ["-n", "--no-heading", "--column", "-C1", "--color=always", "o*o|x", "src"],
 ]
-JSON = [words.split() for words in ("foo src", "-i foo .", "-C1 foo src", "-v foo src/a.c", "zebra .", "-w foo|bar .", "-m1 foo src")]
+JSON = """foo src | -i foo . | -C1 foo src | -v foo src/a.c | -v foo . | zebra . | -w foo|bar . | -m1 foo src | -m1 -v foo . | o* src | ^ src |
+    $ . | ^$ . | o* ../plain/no-end | $ ../plain/no-end src | (a|o)*$ src | -x o* . | -C1 o* src | -F -e foo -e bar .""".replace("\n   ", "")
+JSON = [words.split() for words in JSON.split(" | ")]
 REFUSED = {
     ("-P", "x"): "docs/PATTERNS.md",
     ("-U", "x"): "rg -U",
@@ -73,8 +87,8 @@ REFUSED = {
     ("--limit", "0", "x"): "at least 1",
     ("--max-depth", "0", "x"): "--max-depth is at least 1",
     ("--color", "x"): "write --color=auto",
-    ("-t", "all", "x"): "name the types",
-    ("-g", "{" + ",".join(f"name{number}" for number in range(300)) + "}", "x"): "the globs, types and names of an option make one pattern",
+    ("--max-filesize", "1X", "x"): "needs a size such as",
+    ("--name", "x" * 1_100, "x"): "--name and --not-name take at most",
     ("--files", "--name", "("): "pattern of paths: group not closed",
     ("--passthrough", "x"): "PATTERN|^",
     ("--no-context-separator", "x"): "--context-separator",
@@ -99,6 +113,17 @@ HINTS = {
     "a\\": "-F",
     r"\q": "write q",
     "x" * 1_100: "rg -f FILE",
+}
+
+
+# What is typed, and a word that is offered then.
+COMPLETED = {
+    "tgrep --context-sep": "--context-separator",
+    "tgrep -t rus": "rust",
+    "tgrep --type-no": "--type-not",
+    "tgrep --color alw": "always",
+    "tgrep foo --max-files": "--max-filesize",
+    "tgrep --completion zs": "zsh",
 }
 
 
@@ -127,8 +152,6 @@ def writes_what_rg_writes(folder, environment):
         # files of which nothing is shown are not named
         rg_status, rg_shown, _ = run([*RG, "-g!.git", "--json", *words], tree, environment, command="rg")
         wanted = [without_times(line) for line in rg_shown.splitlines()]
-        for message in wanted, found:
-            message[-1]["data"]["stats"].pop("searches")
         if (status, found) != (rg_status, wanted):
             raise Wrong(f"{words}: {status} {found}, and rg: {rg_status} {wanted}")
 
@@ -180,6 +203,66 @@ def has_pages(folder, environment):
         raise Wrong(str(version))
 
 
+def shells_complete(folder, environment):
+    """The completions, in each shell that there is."""
+    for shell, complete in ("bash", completed_by_bash), ("zsh", completed_by_zsh), ("fish", completed_by_fish):
+        if not shutil.which(shell):
+            print(f"there is no command {shell}, so the completion for it is not run")
+            continue
+        page = run([f"--completion={shell}"], folder, environment)[1]
+        path = os.path.join(folder, "_tgrep")
+        with open(path, "wb") as file:
+            file.write(page)
+        for typed, wanted in COMPLETED.items():
+            shown = complete(path, typed, folder, environment)
+            if wanted not in [word.rstrip("=") for word in shown]:
+                raise Wrong(f"{shell}: {typed}: {shown}")
+
+
+def completed_by_bash(path, typed, folder, environment):
+    """The words that bash offers."""
+    code = f"source '{path}'; COMP_WORDS=({typed} ''); unset 'COMP_WORDS[-1]'; COMP_CWORD=$((${{#COMP_WORDS[@]}} - 1)); _tgrep; echo \"${{COMPREPLY[@]}}\""
+    done = subprocess.run(["bash", "--norc", "-c", code], cwd=folder, env=environment, capture_output=True, text=True, check=True)
+    return done.stdout.split()
+
+
+def completed_by_fish(path, typed, folder, environment):
+    """The words that fish offers."""
+    done = subprocess.run(["fish", "-N", "-c", f"source '{path}'; complete -C '{typed}'"], cwd=folder, env=environment, capture_output=True, text=True, check=True)
+    return [line.partition("\t")[0] for line in done.stdout.splitlines()]
+
+
+def completed_by_zsh(path, typed, folder, environment):
+    """The words of the line that zsh makes of what is typed and a tab."""
+    process, terminal = pty.fork()
+    if process == 0:
+        os.chdir(folder)
+        os.execvpe("zsh", ["zsh", "-f", "-i"], {**environment, "TERM": "dumb"})
+    try:
+        begin = f"PS1='> '; fpath=('{os.path.dirname(path)}' $fpath); autoload -U compinit; compinit -u -D; echo re''ady\n"
+        os.write(terminal, begin.encode())
+        read_until(terminal, b"ready\r\n")
+        os.write(terminal, typed.encode() + b"\t")
+        read_until(terminal, typed.encode())
+        os.write(terminal, b"\x01echo '\x05' do''ne\n")
+        return read_until(terminal, b"done\r\n").decode(errors="replace").split()
+    finally:
+        os.kill(process, 9)
+        os.waitpid(process, 0)
+        os.close(terminal)
+
+
+def read_until(terminal, text):
+    """What a terminal shows up to some text."""
+    shown = b""
+    while text not in shown:
+        if not select.select([terminal], [], [], SECONDS)[0]:
+            raise Wrong(f"not {text}: {shown}")
+        with contextlib.suppress(OSError):
+            shown += os.read(terminal, 1 << 16)
+    return shown
+
+
 def is_installed_without_a_network(folder, environment):
     """With pip, in an environment of its own. The program comes along if the repository has built it."""
     place = os.path.join(folder, "venv")
@@ -207,7 +290,7 @@ def is_installed_without_a_network(folder, environment):
             raise Wrong(name)
 
 
-TESTS = [writes_what_rg_writes, says_what_to_write, has_pages, is_installed_without_a_network]
+TESTS = [writes_what_rg_writes, says_what_to_write, has_pages, shells_complete, is_installed_without_a_network]
 
 
 def check(program):

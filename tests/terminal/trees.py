@@ -16,7 +16,6 @@ PLAIN = {
     "none.txt": b"nothing here\n",
     "empty": b"",
     "crlf.txt": b"foo\r\nint x;\r\nend\r\n",
-    "bom.txt": b"\xef\xbb\xbffoo first\nsecond foo\n",
     "latin": b"caf\xe9 foo \xff\n",
     "caf\udce9": b"foo in a name\n",
     "to do.txt": b"foo and more\na|b f.o a(b\n",
@@ -34,6 +33,15 @@ PLAIN = {
     "patterns": b"foo\ntwo|one\n",
     "line\nfeed": b"foo in a line feed\n",
 }
+# Files that begin with a byte order mark.
+MARKS = {
+    "eight.txt": b"\xef\xbb\xbffoo first\nsecond foo\n",
+    "little.txt": "\ufefffoo sixteen \u00e9\nint \U0001f600\n".encode("utf-16-le"),
+    "big.txt": "\ufefffoo big\nint\n".encode("utf-16-be"),
+    "two": b"\xef\xbb\xbf\n\xef\xbb\xbffoo\n",
+    "alone": b"\xef\xbb\xbf",
+    "none": b"foo\n",
+}
 REPOSITORY = {
     ".gitignore": b"build/\n*.o\n!kept.o\n",
     "a.c": FOO,
@@ -48,6 +56,7 @@ REPOSITORY = {
     "src/a.h": b"void foo(void);\n",
     "src/.gitignore": b"/gen.c\n",
     "src/gen.c": b"foo generated\n",
+    "src/left.o": b"foo left\n",
     "src/sub/b.c": b"foo b\nBar\n",
     ".github/x.yml": b"run: foo\n",
     ".ignore": b"secret\n",
@@ -57,7 +66,7 @@ REPOSITORY = {
 
 def make_trees(folder):
     """The trees of the rows, in a folder."""
-    for tree, files in ("plain", PLAIN), ("repo", REPOSITORY):
+    for tree, files in ("plain", PLAIN), ("repo", REPOSITORY), ("marks", MARKS):
         for name, body in files.items():
             path = os.path.join(folder, tree, name)
             os.makedirs(os.path.dirname(path), exist_ok=True)

@@ -175,6 +175,15 @@ class Sessions(unittest.IsolatedAsyncioTestCase):
                 refused = (await session.publish()).refused
             self.assertEqual({one.reason for one in refused}, {"line too long"})
 
+    async def test_more_refusals_than_pipes_hold(self) -> None:
+        """The session reads while it sends, so neither side waits for ever."""
+        count = 40_000
+        async with aio.Session.started(max_commands=1) as session, asyncio.timeout(SECONDS):
+            await session.put("a", "x")
+            for number in range(count):
+                await session.put(f"f{number}", "some text\n" * 10)
+            self.assertEqual(len((await session.publish()).refused), count)
+
     async def test_streams(self) -> None:
         async def serve(reader: asyncio.StreamReader, writer: asyncio.StreamWriter) -> None:
             pipe = asyncio.subprocess.PIPE

@@ -7,13 +7,14 @@ import shutil
 import signal
 import subprocess
 import tempfile
+import threading
 import time
 import tracemalloc
 import types
 import unittest
 import unittest.mock
 
-from helpers import SECONDS, hits_of, plain, until
+from helpers import SECONDS, hits_of, plain, stopped, until
 
 import tsearch
 from tsearch import aio
@@ -189,9 +190,83 @@ class Folders(unittest.TestCase):
     def test_progress(self) -> None:
         for number in range(5):
             self.write(f"f{number}", b"x\n")
-        told = []
-        tsearch.Folder(self.session, self.top, progress=lambda done, of: told.append((done, of))).refresh()
+        told: list[tuple[int, int]] = []
+
+        def note(done: int, of: int) -> None:
+            told.append((done, of))
+
+        tsearch.Folder(self.session, self.top, progress=note, loads=False).refresh()
         self.assertEqual(told, [(0, 5), (1, 5), (2, 5), (3, 5), (4, 5), (5, 5)])
+        for number in range(1_000):
+            self.write(f"f{number}", b"x\n")
+        told.clear()
+        time.sleep(0.2)  # what has just been written is put
+        with tsearch.Session() as session:
+            tsearch.Folder(session, self.top, progress=note).refresh()
+        self.assertEqual((told, told[0], told[-1]), (sorted(told), (0, 1_000), (1_000, 1_000)))
+        # what the program has loaded, and not what was sent to it
+        self.assertIn((256, 1_000), told)
+
+    def test_a_file_that_changes_before_it_is_loaded(self) -> None:
+        """The next look finds it, whatever the program has read."""
+        for name in "a", "b", "c":
+            self.write(name, b"one\n")
+        time.sleep(0.2)
+        self.enterContext(unittest.mock.patch("tsearch.folder._LEAST_LOADED", 1))
+        folder = tsearch.Folder(self.session, self.top)
+        with stopped(self.session.pid):
+            first = threading.Thread(target=folder.refresh)
+            first.start()
+            until(lambda: len(folder._files.held) == 3)
+            self.write("a", b"two\n")
+            (self.top / "b").unlink()
+            os.mkfifo(self.top / "b")
+            os.rename(self.top / "c", self.top / "d")
+        first.join(SECONDS)
+        folder.refresh()
+        self.assertEqual(plain(self.session.find("")), [(b"a", 1, b"two"), (b"d", 1, b"one")])
+        self.assertEqual((folder.left_out, folder.refresh().published), ({}, None))
+
+    def test_marks_of_byte_orders(self) -> None:
+        """They are no part of a text, and UTF-16 is read."""
+        bodies = {"a": b"\xef\xbb\xbfone\n\xef\xbb\xbftwo", "b": "\ufefffü\n\U0001f600".encode("utf-16-le"), "c": "\ufeffx\n".encode("utf-16-be")}
+        bodies |= {"d": b"\xef\xbb\xbf", "e": b"\xff\xfe\0\xd8x\0", "f": "x".encode("utf-32"), "g": b"\xef\xbb"}
+        wanted = [("a", 1, "one"), ("a", 2, "\ufefftwo"), ("b", 1, "fü"), ("b", 2, "\U0001f600"), ("c", 1, "x"), ("e", 1, "\ufffdx"), ("g", 1, "\ufffd")]
+        for name, body in bodies.items():
+            self.write(name, body)
+        time.sleep(0.2)
+        self.enterContext(unittest.mock.patch("tsearch.folder._LEAST_LOADED", 1))
+        for loads in True, False:
+            with tsearch.Session() as session:
+                folder = tsearch.Folder(session, self.top, loads=loads)
+                self.assertEqual(folder.refresh().left_out, [(b"f", "binary")])
+                self.assertEqual(list(session.find("").texts()), wanted)
+
+    def test_what_is_new_and_refused_is_not_removed(self) -> None:
+        """There is nothing to remove, so there is no second publish."""
+        self.write("a", b"x\n")
+        self.write("b", b"\0")
+        time.sleep(0.2)
+        self.enterContext(unittest.mock.patch("tsearch.folder._LEAST_LOADED", 1))
+        folder = tsearch.Folder(self.session, self.top)
+        with unittest.mock.patch.object(self.session, "remove") as remove:
+            self.assertEqual(folder.refresh().left_out, [(b"b", "binary")])
+        self.assertEqual(remove.call_count, 0)
+
+    def test_many_changes_are_loaded(self) -> None:
+        """As they are put, and what can be no document any more is removed."""
+        for number in range(300):
+            self.write(f"f{number}", b"one\n")
+        time.sleep(0.2)
+        folder = tsearch.Folder(self.session, self.top)
+        folder.refresh()
+        for number in range(300):
+            self.write(f"f{number}", b"\0" if number % 50 == 0 else b"two\n")
+        time.sleep(0.2)
+        with unittest.mock.patch.object(self.session, "put") as put:
+            folder.refresh()
+        self.assertEqual(put.call_count, 0)
+        self.assertEqual((len(self.names("two")), self.names("one"), set(folder.left_out.values())), (294, set(), {"binary"}))
 
     def test_restart(self) -> None:
         self.write("a", b"one\n")
@@ -304,7 +379,7 @@ class Tasks(unittest.IsolatedAsyncioTestCase):
             for number in range(60):
                 pathlib.Path(name, f"f{number}").write_bytes(body)
             async with aio.Session.started() as session, asyncio.timeout(SECONDS):
-                folder = aio.Folder(session, name)
+                folder = aio.Folder(session, name, loads=False)
                 tracemalloc.start()
                 self.addCleanup(tracemalloc.stop)
                 before, _ = tracemalloc.get_traced_memory()

@@ -233,6 +233,16 @@ class Refusals(unittest.TestCase):
             session.restart(lambda new: [new.put(name, "z") for name in "abc"], only_if_ended=False)
             self.assertEqual((session.life, len(session.find("z")), session.find("z").life), (2, 3, 2))
 
+    def test_of_more_changes_than_pipes_hold(self) -> None:
+        """Their texts fill the pipe of the output while changes are sent. The session reads meanwhile, so neither side waits for ever."""
+        count = 40_000
+        with tsearch.Session(max_commands=1) as session:
+            session.put("a", "x")
+            for number in range(count):
+                session.put(f"f{number}", "some text\n" * 10)
+            published = session.publish(SECONDS)
+            self.assertEqual([one.name for one in published.refused], [b"f%d" % number for number in range(count)])
+
 
 class Time(unittest.TestCase):
     def test_a_search_is_cancelled_after_its_time(self) -> None:

@@ -6,6 +6,7 @@ import importlib.util
 import os
 import pathlib
 import random
+import re
 import shutil
 import subprocess
 import sys
@@ -15,14 +16,16 @@ import unittest.mock
 
 from helpers import SECONDS, TOP
 from tsearch import aio
+from tsearch.answers import View
+from tsearch.ignored import Rules
 from tsearch.query import Query
-from tsearch.tgrep import arguments, asking, named, places, tree, watched
+from tsearch.tgrep import arguments, asking, ere, places, tree, watched
 from tsearch.tgrep.asking import Piece
-from tsearch.tgrep.forms import Around, Row
+from tsearch.tgrep.forms import Around, Empty, Passing, Reading, Row
 
 NAMES = "a b ab a.c b.o .h x_y d/a d/b.c d/e/a.c d/e/f_g/a.h - A1 a%b d/[a] ab/a.c cab/a.c d/ab/c".replace("_", "\0").split()
 NAMES = [name.replace("\0", " ") for name in NAMES]
-GLOBS = ["x y", *"a b * ? **/ .c .o [ab] [a-c]* d / - {a,b} {a.c,b*} *.{c,h} [[] e \\[a\\] % [!a].c".split()]
+GLOBS = ["x y", *"a b * ? **/ ***/ **/**/ .c .o [ab] [a-c]* d / - {a,b} {a.c,b*} *.{c,h} [[] e \\[a\\] % [!a].c".split()]
 
 
 class Words(unittest.TestCase):
@@ -67,11 +70,50 @@ class Names(unittest.TestCase):
     def test_patterns_of_names(self) -> None:
         names = ["a", "aa", "b1", "a-b", "x]y", "[z", "a\\b", "Ab.c", "1", "a*", "^a", "d/e.f"]
         for pattern in r"a** ^a+?$ ^a?+$ x{2}|b [[:digit:]] []] [^]a]$ [\\] ^[[:alpha:]-]+$ (a|b)*1 (a)** ^(a{1,2}){1}$ \. \^a a\* [.] [a-c][0-9]".split():
-            found = [name for name in names if named.compiled(pattern.encode()).search(name.encode())]
+            found = [name for name in names if ere.names(pattern.encode()).has(name.encode())]
             words = ["grep", "-E", "-e", pattern]
             done = subprocess.run(words, input="\n".join(names), text=True, capture_output=True, check=False, env={**os.environ, "LC_ALL": "C"})
             with self.subTest(pattern=pattern):
                 self.assertEqual(found, done.stdout.splitlines())
+
+
+class Hostile(unittest.TestCase):
+    """What would take years by backtracking."""
+
+    def test_names(self) -> None:
+        name = b"a" * 60 + b"/" + b"ab" * 60
+        for pattern in rb"(a*)*c", rb"(a|aa|b)*c$", rb"((a*b*)*/)*c", b"a*" * 60 + b"c", rb"(a?){60}(ab|a|b){120}c":
+            self.assertFalse(ere.names(pattern).has(name))
+            self.assertTrue(ere.names(pattern).has(name + b"c"))
+
+    def test_globs(self) -> None:
+        name = b"/".join([b"ab" * 10] * 40)
+        for glob in "*a" * 40 + "*c", "**/a*/" * 20 + "c", "***/" * 30 + "c", "{*a,*b}" * 30 + "c":
+            found = asking.filter_of(arguments.read(["--files", "-g", glob]), Piece(b"", b"", False), b"")
+            self.assertFalse(found.has(name, 0))
+
+    def test_rules_of_git(self) -> None:
+        rules = Rules(b"***/***/" * 20 + b"x*y*z\n" + b"*a" * 40 + b"*c\n")
+        self.assertIsNone(rules.verdict(b"/".join([b"ab" * 20] * 30)))
+
+
+class EmptyMatches(unittest.TestCase):
+    def test_where_they_are(self) -> None:
+        """As for Python's `re`, but for those right behind another match."""
+        for pattern in "a*", "^", "$", "^$", "a|^", "(^a)*", "x", "", "a+$|$", "(b|a?)*":
+            for text in "", "a", "xaay", "b aa", "baab", "aa", "b":
+                found = [match.span() for match in re.finditer(f"(?:{pattern})", text)]
+                wanted = tuple((begin, end) for begin, end in found if begin < end or all(end != other[1] for other in found if other[0] < other[1]))
+                spans = tuple((begin, end) for begin, end in found if begin < end)
+                with self.subTest(pattern=pattern, text=text):
+                    empty = Empty(Query(pattern.encode()))
+                    self.assertEqual(empty.matches(text.encode(), spans), wanted)
+                    if wanted:
+                        self.assertEqual(empty.column(text.encode(), spans), wanted[0][0] + 1)
+        self.assertEqual(Empty(Query(b"a*", whole_words=True)).matches(b"b aa -", ((2, 4),)), ((2, 4), (5, 5), (6, 6)))
+        self.assertEqual(Empty(Query(b"a*", whole_lines=True)).matches(b"", ()), ((0, 0),))
+        self.assertEqual(Empty(Query(b"a*", literal=True)).matches(b"x", ()), ())
+        self.assertEqual(Empty(Query(b"", literal=True)).matches(b"x", (), has_end=False), ((0, 0),))
 
 
 @unittest.skipUnless(shutil.which("rg"), "there is no command rg")
@@ -94,7 +136,8 @@ class Globs(unittest.TestCase):
                 if done.returncode == 2:
                     continue
                 given = arguments.read(["--files", *words])
-                found = {one for one in have if asking.matches(one, asking.named(given, Piece(b"", b"", False), b""))}
+                named = asking.filter_of(given, Piece(b"", b"", False), b"")
+                found = {one for one in have if named.has(one, 0)}
                 with self.subTest(globs=globs):
                     self.assertEqual(found, set(done.stdout.split(b"\n")) - {b""})
                 seen += bool(found) and len(found) < len(have)
@@ -136,6 +179,15 @@ class Parts(unittest.IsolatedAsyncioTestCase):
         self.assertEqual(shown(1, 0), [(2, False), (3, True), (4, True), (7, False), (8, True)])
         self.assertEqual(shown(0, 1), [(3, True), (4, True), (5, False), (8, True), (9, False)])
         self.assertEqual(shown(2, 1, 1), [(1, False), (2, False), (3, True), (4, False)])
+
+    def test_rows_that_come_in_pieces(self) -> None:
+        data, piece = b"a\0001:foo\na\00020:\nb\0003:x:y\n", Piece(b"", b"./", False)
+        for size in range(1, len(data) + 1):
+            pieces = [data[at : at + size] for at in range(0, len(data), size)]
+            passing, reading = Passing(piece, {}, True, False, False, False), Reading(piece, View.LINES, lambda name: name != b"b")
+            self.assertEqual(b"".join(map(passing.take, pieces)), b"./a:1:foo\n./a:20:\n./b:3:x:y\n")
+            rows = [row for given in pieces for row in reading.take(given)]
+            self.assertEqual([row[:4] for row in rows], [(b"./a", 1, True, b"foo"), (b"./a", 20, True, b"")])
 
     def test_what_is_not_watched(self) -> None:
         with tempfile.TemporaryDirectory() as name:

@@ -13,7 +13,7 @@ from typing import TYPE_CHECKING, Any, Unpack
 from .answers import Answer, Published, Status, joined
 from .core import Core, Sent, SentSearch, ended_by, ended_with, status_of, value_of
 from .errors import Ended, Error
-from .folder import Files, Progress, Refreshed, Step
+from .folder import BATCH, Files, Progress, Refreshed, Step
 from .program import MOST_COMMANDS, TO_END, command, kill_group
 from .query import Options, Query
 from .session import MOST_OPEN, MOST_TRIES
@@ -222,7 +222,7 @@ class Change:
         """Returns once the change is known to be accepted, and asks for a status to know it. `ChangeRefused` if it is refused, and
         `Ended`."""
         if not self._sent.is_settled:
-            await _asked(self._connection)
+            await (await _asked(self._connection))
         value_of(self._sent)
 
 
@@ -270,6 +270,10 @@ class Changes:
         """Removes a document."""
         connection = self._connection
         return Change(connection, await connection.send(lambda core: core.remove(name)))
+
+    async def mark(self) -> Awaitable[object]:
+        """Marks what was sent until now. Whoever awaits what is given back waits until the program has carried all of it out. `Ended`."""
+        return await _asked(self._connection)
 
 
 class Session(Changes):
@@ -348,7 +352,7 @@ class Session(Changes):
 
     async def status(self) -> Status:
         """What the session holds. It waits for no search."""
-        return status_of(await _asked(self._connection))
+        return status_of(await (await _asked(self._connection)))
 
     async def sync(self) -> None:
         """Returns once every search that was sent before has its answer or its refusal. Nothing is sent for it: behind an item
@@ -439,14 +443,15 @@ class Session(Changes):
         await self.close()
 
 
-async def _asked(connection: _Connection) -> Any:
-    """The value of a status that is asked for now."""
+async def _asked(connection: _Connection) -> asyncio.Future[Any]:
+    """A status that is asked for now, once it comes."""
 
     def make(core: Core) -> tuple[asyncio.Future[Any], list[bytes]]:
         sent, parts = core.status()
         return _future_of(sent), parts
 
-    return await (await connection.send(make))
+    future: asyncio.Future[Any] = await connection.send(make)
+    return future
 
 
 async def _published(connection: _Connection) -> Published:
@@ -465,7 +470,7 @@ class Folder:
 
     before_change: is awaited with the name of each document that is there and is about to be replaced or removed.
     follows: whether symbolic links are followed.
-    loads: whether the program reads the files of a first look, which must be on its machine; not for a cluster.
+    is_apart: whether the rules of the folders above it do not hold.
     """
 
     def __init__(
@@ -478,12 +483,12 @@ class Folder:
         progress: Progress | None = None,
         before_change: Callable[[bytes], Awaitable[object]] | None = None,
         follows: bool = False,
-        loads: bool = False,
+        is_apart: bool = False,
+        loads: bool | None = None,
     ) -> None:
         self._session = session
-        self._files = Files(root, prefix, git, follows)
-        self._loads = loads
-        self._is_first = True
+        can_load = isinstance(session, Session) and session.pid is not None
+        self._files = Files(root, prefix, git, follows, is_apart, can_load if loads is None else loads)
         self._progress = progress or (lambda done, of: None)
         self._before_change = before_change
         self._lock = asyncio.Lock()
@@ -535,23 +540,30 @@ class Folder:
 
     async def _feed(self, changes: Changes) -> None:
         self._files.forget()
-        self._is_first = True
         await self._send(changes, None, None)
 
     async def _send(
         self, changes: Changes | Cluster, before_change: Callable[[bytes], Awaitable[object]] | None, changed: set[bytes] | None
     ) -> tuple[int, int]:
         put = removed = 0
-        files, held = self._files, frozenset(self._files.held)
-        steps = files.first_steps() if self._is_first and self._loads else files.steps() if changed is None else files.steps_of(changed)
-        self._is_first = False
+        files = self._files
+        steps = files.steps() if changed is None else files.steps_of(changed)
+        loaded: Awaitable[object] | None = None
         while batch := await asyncio.to_thread(_some_of, steps):
             for name, body, done, of, path in batch:
                 self._is_pending = True
-                self._progress(done, of)
-                if before_change and name.removeprefix(self._files.prefix) in held:
+                if done % BATCH == 0 and loaded:
+                    # while the program has the next ones
+                    await loaded
+                    self._progress(done - BATCH, of)
+                    loaded = await changes.mark()
+                elif not loaded:
+                    self._progress(done, of)
+                if before_change and not files.is_new(name):
                     await before_change(name)
-                if path is not None and isinstance(changes, Changes):
+                if path is not None:
+                    assert isinstance(changes, Changes)
+                    loaded = loaded or await changes.mark()
                     await changes.load(name, path)
                     put += 1
                 elif body is None:
@@ -560,6 +572,8 @@ class Folder:
                 else:
                     await changes.put(name, body)
                     put += 1
+        if loaded:
+            await (await changes.mark())
         if put or removed:
             self._progress(put + removed, put + removed)
         return put, removed
@@ -576,7 +590,7 @@ def _some_of(steps: Iterator[Step]) -> list[Step]:
     """The next steps, of a few mebibytes at most."""
     batch: list[Step] = []
     size = 0
-    for step in itertools.islice(steps, 256):
+    for step in itertools.islice(steps, BATCH):
         batch.append(step)
         size += len(step.body or b"")
         if size > _BATCH:

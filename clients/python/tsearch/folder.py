@@ -2,6 +2,7 @@
 
 from __future__ import annotations
 
+import codecs
 import hashlib
 import os
 import stat
@@ -24,6 +25,13 @@ MAX_LINE = 16_384
 _CALLED = {"byte 0 in body": "binary", "cannot load": "cannot be read"}
 # In nanoseconds. A file that changes twice within a tick of the clock of its times may have the same ones both times.
 _TICK = 100_000_000
+# What a file can begin with that says how it is to be read.
+_MARKS = {codecs.BOM_UTF8: "", codecs.BOM_UTF16_LE: "utf-16-le", codecs.BOM_UTF16_BE: "utf-16-be"}
+_LONGEST_MARK = max(map(len, _MARKS))
+# So many changed files and more the program loads itself.
+_LEAST_LOADED = 256
+# So many files are sent, and then so many more before it is known that the program has read the first ones.
+BATCH = 256
 
 
 class Step(NamedTuple):
@@ -45,8 +53,8 @@ class LeftOut(NamedTuple):
 
 
 class Refreshed(NamedTuple):
-    """What a look through a folder came to: how many documents were put and removed, what is left out and was not named before, and
-    the publish, or None if nothing had changed."""
+    """What a look through a folder came to: how many documents were put or loaded, also those that were refused then, and how many were
+    removed; what is left out and was not named before; and the publish, or None if nothing had changed."""
 
     put: int
     removed: int
@@ -64,13 +72,24 @@ class Files:
     """
 
     def __init__(
-        self, root: str | bytes | os.PathLike[str] | os.PathLike[bytes], prefix: str | bytes = b"", git: bool | None = None, follows: bool = False
+        self,
+        root: str | bytes | os.PathLike[str] | os.PathLike[bytes],
+        prefix: str | bytes = b"",
+        git: bool | None = None,
+        follows: bool = False,
+        is_apart: bool = False,
+        loads: bool = False,
     ) -> None:
         self.root = os.path.abspath(os.fsencode(root))
         self.prefix = names.to_bytes(prefix)
-        self._lister = Lister(self.root, git is not False, follows)
+        self._lister = Lister(self.root, git is not False, follows, is_apart)
+        self._loads = loads
+        # how many bytes the files have that were listed last and may be documents
+        self.listed_bytes = 0
         self.left_out: dict[bytes, str] = {}
         self.held: set[bytes] = set()
+        # those of them that were sent once since the last publish, and never before
+        self._new: set[bytes] = set()
         # those of them that a session writes in another way
         self.quoted: set[bytes] = set()
         self._known: dict[bytes, Stamp] = {}
@@ -81,32 +100,24 @@ class Files:
     def forget(self) -> None:
         """A new program has nothing of the folder."""
         self.held.clear()
+        self._new.clear()
         self.quoted.clear()
         self._known.clear()
         self._recent.clear()
 
     def steps(self) -> Iterator[Step]:
         """Looks through the folder, and gives what makes the session's documents those of the folder, to be sent in this order."""
-        listing = self._lister.list()
-        self._name_faults(listing)
-        yield from self._steps(listing, self._known.keys() - listing.files.keys())
-
-    def first_steps(self) -> Iterator[Step]:
-        """The same for a session without documents, which loads all files itself that it can: it alone reads them."""
         began = time.time_ns()
         listing = self._lister.list()
         self._name_faults(listing)
-        for at, name in enumerate(sorted(listing.files)):
-            file = listing.files[name]
-            if file.stamp.size > MAX_BODY or not _is_text(file.path) or len(names.quote(self.prefix + name)) > names.MAX_NAME:
-                for body in self._look_at(name, file):
-                    yield Step(self.prefix + name, body, at, len(listing.files))
-                continue
-            self._hold(name)
-            self._known[name] = file.stamp
-            if max(file.stamp.modified, file.stamp.changed) > began - _TICK:
-                self._recent[name] = b""  # it is read again, whatever its stamp is then
-            yield Step(self.prefix + name, None, at, len(listing.files), file.path)
+        self.listed_bytes = sum(file.stamp.size for file in listing.files.values() if file.stamp.size <= MAX_BODY)
+        yield from self._steps(listing, self._known.keys() - listing.files.keys(), began)
+
+    def _can_be_loaded(self, name: bytes, file: File, began: int) -> bool:
+        """Whether the program can take the bytes of a file as they are, and the next change will show in its stamp."""
+        is_old = name not in self._recent and max(file.stamp.modified, file.stamp.changed) <= began - _TICK
+        is_short = file.stamp.size <= MAX_BODY and len(names.quote(self.prefix + name)) <= names.MAX_NAME
+        return is_old and is_short and _is_text(file.path) and not _is_marked(file)
 
     @property
     def has_unwatched(self) -> bool:
@@ -124,14 +135,15 @@ class Files:
 
     def steps_of(self, changed: set[bytes]) -> Iterator[Step]:
         """The same for files that may have changed, while the caller knows that no others have. All have been looked at before."""
+        began = time.time_ns()
         news = self._lister.news(changed)
         if news is None:
             yield from self.steps()
             return
         found = {name: file for name in news if (file := self._lister.file_at(name)) is not None}
-        yield from self._steps(Listing(found, {}), news & self._known.keys() - found.keys())
+        yield from self._steps(Listing(found, {}), (news & self._known.keys()) - found.keys(), began)
 
-    def _steps(self, listing: Listing, lost: Iterable[bytes]) -> Iterator[Step]:
+    def _steps(self, listing: Listing, lost: Iterable[bytes], began: int) -> Iterator[Step]:
         gone = sorted(lost)
         changed = [name for name in sorted(listing.files) if name in self._recent or self._known.get(name) != listing.files[name].stamp]
         for at, name in enumerate(gone):
@@ -141,8 +153,17 @@ class Files:
             if name in self.held:
                 self._drop(name)
                 yield Step(self.prefix + name, None, at, len(gone) + len(changed))
+        loads = self._loads and len(changed) >= _LEAST_LOADED
         for at, name in enumerate(changed, len(gone)):
-            for body in self._look_at(name, listing.files[name]):
+            file = listing.files[name]
+            if loads and self._can_be_loaded(name, file, began):
+                # if it changes before it is loaded, its stamp has changed too, and the next look puts it
+                self.left_out.pop(name, None)
+                self._hold(name)
+                self._known[name] = file.stamp
+                yield Step(self.prefix + name, None, at, len(gone) + len(changed), file.path)
+                continue
+            for body in self._look_at(name, file):
                 yield Step(self.prefix + name, body, at, len(gone) + len(changed))
 
     def take_refusals(self, refused: tuple[ChangeRefused, ...]) -> list[bytes]:
@@ -151,22 +172,28 @@ class Files:
         for refusal in refused:
             name = refusal.name.removeprefix(self.prefix)
             if refusal.name.startswith(self.prefix) and name in self.held:
+                if name not in self._new:
+                    stale.append(refusal.name)
                 self._drop(name)
                 self._recent.pop(name, None)
                 if refusal.reason == "cannot load":
                     self._known.pop(name)  # it is tried again
                 self._leave_out(name, _CALLED.get(refusal.reason, refusal.reason))
-                stale.append(refusal.name)
+        self._new.clear()
         return stale
 
     def has_folder(self, name: bytes) -> bool:
         """Whether no rule names a folder, nor one above it; its path from the top has no slash at the end."""
         return self._lister.has_folder(name)
 
-    @property
-    def sizes(self) -> dict[bytes, int]:
-        """The lengths of the files that were looked at, those that are left out too, in bytes."""
-        return {name: stamp.size for name, stamp in self._known.items()}
+    def is_new(self, name: bytes) -> bool:
+        """Whether the document of a step is new to the session."""
+        return name.removeprefix(self.prefix) in self._new
+
+    def size(self, name: bytes) -> int:
+        """The length of a file that was looked at, also one that is left out, in bytes; 0 if there is none."""
+        stamp = self._known.get(name)
+        return stamp.size if stamp else 0
 
     def take_news(self) -> list[LeftOut]:
         """What is left out and was not given before."""
@@ -180,12 +207,17 @@ class Files:
             self._leave_out(name, reason)
 
     def _hold(self, name: bytes) -> None:
+        if name in self.held:
+            self._new.discard(name)
+        else:
+            self._new.add(name)
         self.held.add(name)
         if names.quote(name) != name:
             self.quoted.add(name)
 
     def _drop(self, name: bytes) -> None:
         self.held.discard(name)
+        self._new.discard(name)
         self.quoted.discard(name)
 
     def _leave_out(self, name: bytes, reason: str) -> None:
@@ -235,16 +267,52 @@ def _is_text(path: bytes) -> bool:
     return b"\n" not in path
 
 
+def _opened(file: File) -> int:
+    """A descriptor of a file. Another process may have put a pipe or a link in its place."""
+    return os.open(file.path, os.O_RDONLY | os.O_NOFOLLOW | os.O_NONBLOCK | os.O_CLOEXEC)
+
+
+def _is_marked(file: File) -> bool:
+    """Whether a file begins with a byte order mark, as far as it can be read."""
+    try:
+        descriptor = _opened(file)
+    except OSError:
+        return False
+    try:
+        return mark_of(os.read(descriptor, _LONGEST_MARK)) != b""
+    except OSError:
+        return False
+    finally:
+        os.close(descriptor)
+
+
+def mark_of(data: bytes) -> bytes:
+    """The byte order mark that some bytes begin with; empty if there is none."""
+    return next((mark for mark in _MARKS if data.startswith(mark)), b"")
+
+
+def decoder_of(mark: bytes) -> codecs.IncrementalDecoder | None:
+    """What reads the bytes behind a mark, if they are no UTF-8."""
+    encoding = _MARKS.get(mark)
+    return codecs.getincrementaldecoder(encoding)("replace") if encoding else None
+
+
+def text_of(data: bytes) -> bytes:
+    """The bytes of a file as a document has them: a byte order mark is no part of it, and UTF-16 with one becomes UTF-8."""
+    mark = mark_of(data)
+    decoder = decoder_of(mark)
+    return decoder.decode(data[len(mark) :], True).encode() if decoder else data[len(mark) :] if mark else data
+
+
 def _body_of(file: File) -> bytes:
-    """The bytes of a file. `ChangeRefused` if no document can have them."""
+    """The text of a file. `ChangeRefused` if no document can have it."""
     if file.stamp.size > MAX_BODY:
         raise ChangeRefused("body too long", file.path)
-    # another process may have put a pipe or a link in its place
-    descriptor = os.open(file.path, os.O_RDONLY | os.O_NOFOLLOW | os.O_NONBLOCK | os.O_CLOEXEC)
+    descriptor = _opened(file)
     with open(descriptor, "rb") as opened:
         if not stat.S_ISREG(os.fstat(descriptor).st_mode):
             raise FileNotFoundError
-        body = opened.read(MAX_BODY + 1)
+        body = text_of(opened.read(MAX_BODY + 1))
     if len(body) > MAX_BODY:
         raise ChangeRefused("body too long", file.path)
     if b"\0" in body:
@@ -270,7 +338,9 @@ class Folder:
     root: the folder. Its path is made absolute now.
     prefix: what the names of its documents begin with, before their paths from the top of the folder.
     git: False to take the files that rules name, too.
-    progress: is called with the number of changed files that are sent, and of all changed files, from 0 to the whole.
+    progress: is called with the number of changed files that are sent, or that the program has loaded, and of all changed files, from 0 to
+        the whole.
+    loads: whether the program loads files itself where many have changed, which takes less time; by default if the session has started it.
 
     Threads can share a folder; one at a time looks through it.
     """
@@ -283,9 +353,10 @@ class Folder:
         prefix: str | bytes = b"",
         git: bool | None = None,
         progress: Progress | None = None,
+        loads: bool | None = None,
     ) -> None:
         self._session = session
-        self._files = Files(root, prefix, git)
+        self._files = Files(root, prefix, git, loads=session.pid is not None if loads is None else loads)
         self._progress = progress or (lambda done, of: None)
         self._lock = threading.Lock()
         self._is_pending = False
@@ -341,15 +412,28 @@ class Folder:
 
     def _send(self, changes: Changes) -> tuple[int, int]:
         put = removed = 0
-        for name, body, done, of, _ in self._files.steps():
+        loaded: Callable[[], object] | None = None
+        for name, body, done, of, path in self._files.steps():
             self._is_pending = True
-            self._progress(done, of)
-            if body is None:
+            if done % BATCH == 0 and loaded:
+                # while the program has the next ones
+                loaded()
+                self._progress(done - BATCH, of)
+                loaded = changes.mark()
+            elif not loaded:
+                self._progress(done, of)
+            if path is not None:
+                loaded = loaded or changes.mark()
+                changes.load(name, path)
+                put += 1
+            elif body is None:
                 changes.remove(name)
                 removed += 1
             else:
                 changes.put(name, body)
                 put += 1
+        if loaded:
+            changes.mark()()
         if put or removed:
             self._progress(put + removed, put + removed)
         return put, removed

@@ -27,6 +27,7 @@ _CLASSES = {
 }
 _NEVER = b"(?!)"
 _STAR = b"[^/]*"
+_STARS = re.compile(rb"\*+")
 
 
 class _Rule(NamedTuple):
@@ -88,16 +89,19 @@ def _between_deep(pattern: bytes) -> list[list[bytes]]:
     lists: list[list[bytes]] = [[]]
     at = 0
     while at < len(pattern):
-        if pattern.startswith(b"**/", at) and (at == 0 or pattern[at - 1] == 47):
+        found = _STARS.match(pattern, at)
+        stars = len(found[0]) if found else 0
+        # git takes three stars and more as two
+        is_deep = stars > 1 and (at == 0 or pattern[at - 1] == 47)
+        if is_deep and pattern.startswith(b"/", at + stars):
             lists.append([])
-            at += 3
-        elif pattern[at:] == b"**" and at and pattern[at - 1] == 47:
+            at += stars + 1
+        elif is_deep and at and at + stars == len(pattern):
             lists[-1].append(b".+")
-            at += 2
-        elif pattern[at] == 42:
+            at += stars
+        elif stars:
             lists[-1].append(_STAR)
-            while at < len(pattern) and pattern[at] == 42:
-                at += 1
+            at += stars
         else:
             part, at = _one(pattern, at)
             lists[-1].append(part)

@@ -46,14 +46,16 @@ class Lister:
 
     root: its absolute path.
     uses_rules: whether rules hold. Those of .gitignore hold where the folder is in a repository and is not ignored there itself.
+    is_apart: whether the rules of the folders above it do not hold.
     follows: whether symbolic links are followed; otherwise they are left out.
     """
 
-    def __init__(self, root: bytes, uses_rules: bool = True, follows: bool = False) -> None:
+    def __init__(self, root: bytes, uses_rules: bool = True, follows: bool = False, is_apart: bool = False) -> None:
         self.root = root
         self._begin = root.rstrip(b"/") + b"/"
         self._uses_rules = uses_rules
         self._follows = follows
+        self._is_apart = is_apart
         self._chains: dict[bytes, Chain] = {}
         self._repositories: dict[bytes, Repository] = {}
         self._tracked: dict[bytes, set[bytes]] = {}
@@ -65,7 +67,7 @@ class Lister:
         repository = repository_above(root) if uses_rules else None
         # the paths that rules are asked about begin at the top of the repository
         self._from_top = b"" if repository is None else _inside(os.path.relpath(root, repository.top))
-        self._repository = None if repository is None or self._is_ignored(repository) else repository
+        self._repository = None if repository is None or not is_apart and self._is_ignored(repository) else repository
 
     def _is_ignored(self, repository: Repository) -> bool:
         """Whether the folder is ignored in its repository."""
@@ -85,7 +87,7 @@ class Lister:
         if self._repository is None:
             return Chain()
         chain, at = self._at_top(self._repository), b""
-        for part in self._from_top.split(b"/")[:-1]:
+        for part in () if self._is_apart else self._from_top.split(b"/")[:-1]:
             chain = self._entered(chain, at, os.path.join(self._repository.top, at), None)
             at += part + b"/"
         return chain

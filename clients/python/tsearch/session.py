@@ -409,6 +409,11 @@ class Changes:
         connection = self._connection
         return Change(connection, connection.send(lambda core: core.remove(name)))
 
+    def mark(self) -> Callable[[], object]:
+        """Marks what was sent until now. What is given back waits until the program has carried all of it out, and raises `Ended`."""
+        future = _asked(self._connection, None)
+        return lambda: _result(future, None)
+
 
 class Session(Changes):
     """A program that keeps documents and answers searches, for as many threads as want to share it.
@@ -493,13 +498,7 @@ class Session(Changes):
     def status(self, timeout: float | None = None) -> Status:
         """What the session holds. It waits for no search. `TimeoutError` if it does not come in `timeout`."""
         deadline = _deadline(timeout)
-        connection = self._connection
-
-        def make(core: Core) -> tuple[Future[Any], list[bytes]]:
-            sent, parts = core.status()
-            return _future_of(sent), parts
-
-        return status_of(_result(connection.send(make, deadline), deadline))
+        return status_of(_result(_asked(self._connection, deadline), deadline))
 
     def sync(self, timeout: float | None = None) -> None:
         """Returns once every search that was sent before has its answer or its refusal. Nothing is sent for it: behind an item
@@ -635,6 +634,17 @@ class Session(Changes):
         if kind is not None:
             self.kill()
         self.close()
+
+
+def _asked(connection: _Connection, deadline: float | None) -> Future[Any]:
+    """The status, once it comes."""
+
+    def make(core: Core) -> tuple[Future[Any], list[bytes]]:
+        sent, parts = core.status()
+        return _future_of(sent), parts
+
+    future: Future[Any] = connection.send(make, deadline)
+    return future
 
 
 def _publish(connection: _Connection, deadline: float | None) -> Published:

@@ -64,10 +64,10 @@ class _Alone:
         return [Part(piece, tree, inside(self._request["here"], real))]
 
     def _progress(self, done: int, of: int) -> None:
-        if done % 100 == 0:
+        if done % 64 == 0 or done == of:
             self._terminal.progress(progress_text(done, of))
 
 
 def progress_text(done: int, of: int) -> bytes:
-    """What is shown while files are loaded."""
-    return f"loading: {done:,} of {of:,} files".encode()
+    """What is shown while files are loaded, and once they are."""
+    return (f"loading: {done:,} of {of:,} files" if done < of else f"indexing {of:,} files").encode()

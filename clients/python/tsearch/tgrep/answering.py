@@ -10,22 +10,26 @@ import dataclasses
 import itertools
 import math
 import os
+import tempfile
 import time
 from collections.abc import Callable, Iterable, Iterator
 from typing import Any, Protocol
 
-from ..answers import View
 from ..errors import Cancelled, Ended, Error, OptionRefused, PatternRefused
 from ..query import Query
+from ..session import MOST_TRIES
 from . import asking, forms
 from .arguments import Refused
-from .asking import Piece
+from .asking import Filter, Piece
 from .hints import hint
 from .json_form import JsonLines
 from .text import Text, UnreadableText
 from .tree import Documents, find
 
 _SUMMED = 10
+# In bytes: so much of rows that wait for others is in memory, and so much of a file is read at a time.
+_IN_MEMORY = 1 << 22
+_BLOCK = 1 << 18
 # What makes a file no document, and is no news to who searches text; and what is in each reason that is a limit of documents.
 _NO_TEXT = "binary"
 _TOO_LONG = "too long"
@@ -47,6 +51,7 @@ class Reply(Protocol):
 class Part:
     """A piece of what is searched, the documents that it is a piece of, and the working folder, if it is among them.
 
+    filter: which documents of the piece are searched, once that is known.
     text: what it is read from block by block, if it is.
     is_typed: whether it is a file whose path was typed.
     aside: what of a folder is searched as a part of its own.
@@ -55,9 +60,14 @@ class Part:
     piece: Piece
     documents: Documents
     here: bytes | None = None
+    filter: Filter = Filter(())
     text: Text | None = None
     is_typed: bool = False
     aside: frozenset[bytes] = frozenset()
+
+    def has(self, name: bytes) -> bool:
+        """Whether a document, or what is none, is searched."""
+        return self.filter.has(name, self.documents.size(name) if self.filter.largest is not None else 0)
 
 
 class HasLong(Protocol):
@@ -88,6 +98,7 @@ class Call:
         self._is_found = self._has_errors = False
         self._json: JsonLines | None = None
         self._query = asking.query_of(self.given)
+        self._empty = forms.Empty(self._query)
         # of one part: how many lines or matches each path has
         self._counts: dict[bytes, int] = {}
         self._kept = forms.Around(0, 0, None)
@@ -133,10 +144,15 @@ class Call:
     async def _answer(self, parts: list[Part]) -> int:
         if parts:
             await self._check_patterns(parts[0].documents)
+        for part in parts:
+            part.filter = asking.filter_of(self.given, part.piece, part.here)
         parts = await self._with_long(parts)
         if self._show == "json":
-            self._json = JsonLines(self._body_of(parts), self._totals, self._began, self._before["call"][4] if self._before else (0, 0))
-        lines = forms.Lines(self.given, self._has_names, self._is_terminal, self._colours, self._around is not None, self._has_shown)
+            before = self._before["call"][4] if self._before else (0, 0)
+            self._json = JsonLines(self._body_of(parts), self._totals, self._empty, self._began, before)
+        lines = forms.Lines(
+            self.given, self._has_names, self._is_terminal, self._colours, self._empty, self._around is not None, self._has_shown
+        )
         for part in parts:
             if not self._has_enough:
                 await self._search(part, lines)
@@ -148,10 +164,12 @@ class Call:
         for part in parts:
             found.append(part)
             if not part.piece.is_file and not self.given.get("files"):
-                patterns = asking.named(self.given, part.piece, part.here)
-                names = [name for name, reason in part.documents.left_out.items() if reason in _ASIDE and asking.matches(name, patterns)]
+                names = [name for name, reason in part.documents.left_out.items() if reason in _ASIDE and part.has(name)]
                 part.aside = frozenset(names)
-                found += await self._aside.add_long(part, sorted(names))
+                long = await self._aside.add_long(part, sorted(names))
+                for one in long:
+                    one.filter = asking.filter_of(self.given, one.piece, one.here)
+                found += long
         return found
 
     @property
@@ -201,10 +219,10 @@ class Call:
         return is_known or sum(self._counts.values()) >= self.given.get("max_count", math.inf)
 
     async def _search_piece(self, part: Part, lines: forms.Lines) -> None:
-        wanted, unwanted = asking.named(self.given, part.piece, part.here)
+        wanted, unwanted = part.filter.sent
         query = dataclasses.replace(self._query, names=wanted, not_names=unwanted)
         if self.given.get("files"):
-            self._list(part, (wanted, unwanted))
+            self._list(part)
         elif self.given.get("quiet") and self._show != "other names" and not self.given.get("stats"):
             await self._only_status(part, query)
         elif self._is_of_names:
@@ -226,11 +244,12 @@ class Call:
         return max((self.given[key] for key in ("context", "before", "after") if key in self.given), default=None)
 
     def _end(self, parts: list[Part]) -> int:
-        sizes = [size for part in parts for size in self._searched(part).values()]
-        self._searched_before += len(sizes)
-        self._bytes_before += sum(sizes)
+        if self.given.get("stats"):
+            sizes = [size for part in parts for size in self._searched(part).values()]
+            self._searched_before += len(sizes)
+            self._bytes_before += sum(sizes)
         if self._show == "json" and self._json:
-            self._reply.output(self._json.end(self._searched_before, self._is_last))
+            self._reply.output(self._json.end(self._is_last))
         elif self.given.get("stats") and self._is_last:
             self._reply.output(self._stats())
         is_whole = self._name_left_out(parts)
@@ -244,11 +263,10 @@ class Call:
         """Names files that are text, or may be, and were not searched. Whether there were none."""
         typed, others, is_whole = {}, {}, True
         for part in parts:
-            patterns = asking.named(self.given, part.piece, part.here)
             for name, reason in part.documents.left_out.items():
                 is_missed = reason != _NO_TEXT or bool(self.given.get("text")) or part.is_typed
                 is_told = (is_missed or self.given.get("left_out")) and not (self.given.get("files") and _is_limit(reason))
-                if is_told and name not in part.aside and asking.matches(name, patterns):
+                if is_told and name not in part.aside and part.has(name):
                     (typed if part.is_typed else others)[part.piece.displayed(name)] = reason
                     is_whole &= not is_missed
                     self._has_errors |= reason != _NO_TEXT and not _is_limit(reason)
@@ -276,16 +294,14 @@ class Call:
 
     def _searched(self, part: Part) -> dict[bytes, int]:
         """The documents of a part, with their lengths."""
-        patterns = asking.named(self.given, part.piece, part.here)
         if part.piece.is_file:
             sizes, name = part.documents.sizes, part.piece.under
             return {name: sizes[name]} if name in sizes else {}
-        is_wanted = asking.matcher(part.piece, patterns)
-        return {name: size for name, size in part.documents.sizes.items() if is_wanted(name)}
+        return {name: size for name, size in part.documents.sizes.items() if part.filter.has(name, size)}
 
-    def _list(self, part: Part, patterns: tuple[tuple[bytes, ...], tuple[bytes, ...]]) -> None:
+    def _list(self, part: Part) -> None:
         left_out = (name for name, reason in part.documents.left_out.items() if reason == _NO_TEXT or _is_limit(reason))
-        names = [name for name in {*part.documents.sizes, *left_out} if asking.matches(name, patterns)]
+        names = [name for name in {*part.documents.sizes, *left_out} if part.has(name)]
         self._write_names(part.piece.displayed(name) for name in sorted(names))
         self._is_found |= bool(names)
 
@@ -301,10 +317,19 @@ class Call:
         if self._show == "match counts":
             counts = await self._match_counts(part, query)
         else:
-            counts = (await find(part.documents, dataclasses.replace(query, counts=True, limit=self._left))).counts()
+            # a document of which only the name is shown is looked at up to its first line
+            is_counted = self._show == "counts"
+            query = dataclasses.replace(query, counts=is_counted, names_only=not is_counted, limit=self._limit_of(part))
+            answer = await find(part.documents, query)
+            counts = answer.counts() if is_counted else dict.fromkeys(answer.names(), 1)
         for name, count in counts.items():
-            shown = part.piece.displayed(name)
-            self._counts[shown] = self._counts.get(shown, 0) + count
+            if part.filter.is_sent or part.has(name):
+                shown = part.piece.displayed(name)
+                self._counts[shown] = self._counts.get(shown, 0) + count
+
+    def _limit_of(self, part: Part) -> int | None:
+        """The limit that a search is sent with: none if some of its rows are left out here."""
+        return self._left if part.filter.is_sent else None
 
     def _show_names(self, part: Part) -> None:
         """Shows the paths that were found, or the others."""
@@ -326,23 +351,31 @@ class Call:
             self._write_counts(counts)
 
     async def _match_counts(self, part: Part, query: Query) -> dict[bytes, int]:
-        answer = await find(part.documents, dataclasses.replace(query, spans=not query.invert))
+        query = dataclasses.replace(query, spans=not query.invert)
+        reading = forms.Reading(dataclasses.replace(part.piece, is_file=False, shown=part.piece.under), query.view)
         counts: dict[bytes, int] = {}
-        for hit in answer:
-            counts[hit.name] = counts.get(hit.name, 0) + (1 if query.invert else len(hit.spans or ()))
+
+        def take(data: bytes) -> None:
+            for row in reading.take(data):
+                counts[row.name] = counts.get(row.name, 0) + (1 if query.invert else len(self._empty.matches(row.text, row.spans or ())))
+
+        await part.documents.session.pass_on(query, take)
         return {name: count for name, count in counts.items() if count}
 
     def _write_counts(self, counts: dict[bytes, int]) -> None:
         show = forms.shown_controls if self._is_terminal else bytes
         end = b"\0" if self.given.get("null") else b":"
-        for name, count in counts.items():
-            path = self._colours.paint(show(name), "path") + end if self._has_names else b""
-            self._reply.output(path + b"%d\n" % count)
+        paths = (self._colours.paint(show(name), "path") + end if self._has_names else b"" for name in counts)
+        if counts:
+            self._reply.output(b"".join(path + b"%d\n" % count for path, count in zip(paths, counts.values())))
 
     # Lines.
 
     async def _rows(self, part: Part, query: Query, lines: forms.Lines) -> None:
         if self.given.get("max_count") == 0:
+            return
+        if self.given.get("only_matching") and query.invert:
+            await self._only_status(part, query)
             return
         context = self._around
         needs_spans = not query.invert and (
@@ -350,20 +383,18 @@ class Call:
             or self._show == "json"
             or any(self.given.get(key) for key in ("only_matching", "vimgrep", "stats"))
         )
-        needs_column = bool(self.given.get("column")) and not query.invert
-        if self.given.get("only_matching") and query.invert:
-            await self._only_status(part, query)
-            return
+        # where spans are known, columns are too
+        needs_column = bool(self.given.get("column")) and not query.invert and not needs_spans
         is_bounded = part.text is None or context is None
-        query = dataclasses.replace(query, limit=self._left if is_bounded else None, context=context)
-        if needs_spans + needs_column + (context is not None) > 1:
-            await self._read_whole(part, query, lines, needs_spans, needs_column)
+        query = dataclasses.replace(query, limit=self._limit_of(part) if is_bounded else None, context=context)
+        if context is not None and (needs_spans or needs_column):
+            await self._read_both(part, query, lines, needs_spans)
             return
         query = dataclasses.replace(query, spans=needs_spans, column=needs_column)
-        if not needs_spans and self._passes() and (part.text is None or context is None):
+        if not needs_spans and self._passes() and part.filter.is_sent and (part.text is None or context is None):
             await self._pass_on(part, query)
             return
-        reading = forms.Reading(part.piece, query.view)
+        reading = forms.Reading(part.piece, query.view, part.has)
 
         def take(data: bytes) -> None:
             self._write(itertools.chain.from_iterable(map(self._kept.take, reading.take(data))), lines)
@@ -372,8 +403,10 @@ class Call:
 
     async def _only_status(self, part: Part, query: Query) -> None:
         """Whether a line is found."""
-        answer = await find(part.documents, dataclasses.replace(query, header_only=True, limit=1))
-        self._is_found |= answer.count > 0
+        if part.filter.is_sent:
+            self._is_found |= (await find(part.documents, dataclasses.replace(query, header_only=True, limit=1))).count > 0
+        else:
+            self._is_found |= any(map(part.has, (await find(part.documents, dataclasses.replace(query, names_only=True))).names()))
 
     def _passes(self) -> bool:
         """Whether rows need not be read."""
@@ -404,18 +437,27 @@ class Call:
         if self._left is not None:
             self._left -= answer.count
 
-    async def _read_whole(self, part: Part, query: Query, lines: forms.Lines, needs_spans: bool, needs_column: bool) -> None:
-        """Shows what takes two searches."""
-        has_context = query.context is not None
-        first = dataclasses.replace(query, spans=needs_spans, column=needs_column and not has_context)
-        answer = await find(part.documents, first)
-        spans = forms.all_spans(answer.spans_data) if answer.spans_data is not None else None
-        columns = None
-        if needs_column and has_context:
-            other = await find(part.documents, dataclasses.replace(query, context=None, column=True))
-            columns = forms.all_columns(other.data)
-        reading = forms.Reading(part.piece, answer.view, spans, columns)
-        self._write(itertools.chain.from_iterable(map(self._kept.take, reading.take(answer.data))), lines)
+    async def _read_both(self, part: Part, query: Query, lines: forms.Lines, needs_spans: bool) -> None:
+        """Shows what takes two searches: lines around those that are found, and places in these. What does not go into a little memory
+        waits in files."""
+        other = dataclasses.replace(query, context=None, spans=needs_spans, column=not needs_spans)
+        session = part.documents.session
+        with tempfile.SpooledTemporaryFile(_IN_MEMORY) as places, tempfile.SpooledTemporaryFile(_IN_MEMORY) as rows:
+            for _ in range(MOST_TRIES):
+                for file in places, rows:
+                    file.seek(0)
+                    file.truncate()
+                first, second = await session.pass_on(other, places.write), await session.pass_on(query, rows.write)
+                if (first.life, first.version) == (second.life, second.version):
+                    break
+            else:
+                raise Error("the files change too often for two searches")
+            for file in places, rows:
+                file.seek(0)
+            reading = forms.Reading(part.piece, query.view, part.has, forms.places_of(places, other.view))
+            while data := rows.read(_BLOCK):
+                self._write(itertools.chain.from_iterable(map(self._kept.take, reading.take(data))), lines)
+                await asyncio.sleep(0)
 
     def _write(self, rows: Iterator[forms.Row], lines: forms.Lines) -> None:
         form = self._json or lines
@@ -425,7 +467,7 @@ class Call:
                 if self._left == 0:
                     break
                 self._left = None if self._left is None else self._left - 1
-                self._totals.add(row)
+                self._totals.add(row, self._matches_of(row))
                 self._is_found = True
             parts.append(form.write(row))
         data = b"".join(parts) if not self.given.get("quiet") else b""
@@ -433,6 +475,11 @@ class Call:
         if data:
             self._has_shown = True
             self._reply.output(data)
+
+    def _matches_of(self, row: forms.Row) -> int:
+        """How many matches a line has, if that is shown somewhere. The form of JSON counts them itself."""
+        is_told = self.given.get("stats") and not self._json
+        return len(self._empty.matches(row.text, row.spans)) if is_told and row.spans is not None else 0
 
     def _body_of(self, parts: list[Part]) -> Callable[[bytes], bytes]:
         def body_of(shown: bytes) -> bytes:

@@ -89,6 +89,8 @@ def _set(given, row, name, text):
         if not (text.isascii() and text.isdecimal()):
             raise Refused(f"{name} needs a number, and {text} is none")
         text = int(text)
+    elif value == "size":
+        text = _size(name, text)
     elif isinstance(value, tuple) and text not in value:
         if name.startswith("--colo"):
             raise Refused(f"{name} {text}: write {name}=auto, {name}=always or {name}=never")
@@ -101,6 +103,13 @@ def _set(given, row, name, text):
         given[key] = text
     if key in ("globs", "iglobs"):
         given.setdefault("all_globs", []).append((text, key == "iglobs"))
+
+
+def _size(name, text):
+    digits, shift = text.rstrip("KMG"), "KMG".find(text[-1:]) + 1 if text else 0
+    if not (digits.isascii() and digits.isdecimal() and len(digits) >= len(text) - 1):
+        raise Refused(f"{name} needs a size such as 5000, 50K, 80M or 1G, and {text} is none")
+    return int(digits) << 10 * shift
 
 
 def _unknown(name):

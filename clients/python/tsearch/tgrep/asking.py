@@ -3,16 +3,16 @@
 from __future__ import annotations
 
 import dataclasses
+import functools
 import os
 import re
 from collections.abc import Callable
 from typing import Any
 
 from ..names import quote, to_bytes
-from ..query import Query, escape
-from . import globs
+from ..query import MAX_PATTERN, Query, escape
+from . import ere, globs
 from .arguments import Refused
-from .named import compiled
 from .types import TYPES
 
 # A pattern that matches nothing: there is no byte after the end of a line.
@@ -78,11 +78,49 @@ def single_patterns(given: dict[str, Any]) -> list[bytes]:
     return [] if given.get("literal") or len(patterns) < 2 else patterns
 
 
-def named(given: dict[str, Any], piece: Piece, here: bytes | None) -> tuple[tuple[bytes, ...], tuple[bytes, ...]]:
-    """The patterns of names for a piece: those of which each, and those of which none may match. `here` is the path of the working
-    folder from the top of the tree, if it is in the tree."""
+@dataclasses.dataclass(frozen=True)
+class Filter:
+    """Which documents of a piece are searched: those whose names have a match of each of `wanted` and of none of `unwanted`, and that have
+    at most so many bytes."""
+
+    wanted: tuple[bytes, ...]
+    unwanted: tuple[bytes, ...] = ()
+    largest: int | None = None
+
+    @property
+    def sent(self) -> tuple[tuple[bytes, ...], tuple[bytes, ...]]:
+        """The patterns that the program takes."""
+        return tuple(filter(_is_taken, self.wanted)), tuple(filter(_is_taken, self.unwanted))
+
+    @property
+    def is_sent(self) -> bool:
+        """Whether the program leaves out all that is to be left out."""
+        return self.largest is None and all(map(_is_taken, (*self.wanted, *self.unwanted)))
+
+    def has(self, name: bytes, size: int) -> bool:
+        """Whether a document is searched. The names are those that the program would say."""
+        if self.largest is not None and size > self.largest:
+            return False
+        wanted, unwanted = self._tests
+        if not wanted and not unwanted:
+            return True
+        quoted = quote(name)
+        return all(test(quoted) for test in wanted) and not any(test(quoted) for test in unwanted)
+
+    @functools.cached_property
+    def _tests(self) -> tuple[list[Callable[[bytes], bool]], list[Callable[[bytes], bool]]]:
+        # the pattern of all names is left out
+        return [ere.names(one).has for one in self.wanted if one != globs.under(b"")], [ere.names(one).has for one in self.unwanted]
+
+
+def _is_taken(pattern: bytes) -> bool:
+    return len(pattern) <= MAX_PATTERN
+
+
+def filter_of(given: dict[str, Any], piece: Piece, here: bytes | None) -> Filter:
+    """The filter for a piece. `here` is the path of the working folder from the top of the tree, if it is in the tree."""
     if piece.is_file:
-        return (b"^" + globs.literal(piece.under) + b"$",), ()
+        return Filter((b"^" + globs.literal(piece.under) + b"$",))
     places = globs.Places(piece.under, piece.under if here is None else here)
     wanted, unwanted = [globs.under(piece.under)], []
     if given.get("no_hidden"):
@@ -97,7 +135,7 @@ def named(given: dict[str, Any], piece: Piece, here: bytes | None) -> tuple[tupl
     _of_grep(given, places, wanted, unwanted)
     wanted += map(to_bytes, given.get("names", []))
     unwanted += map(to_bytes, given.get("not_names", []))
-    return tuple(wanted), tuple(unwanted)
+    return Filter(tuple(wanted), tuple(unwanted), given.get("largest"))
 
 
 def _of_globs(given: dict[str, Any]) -> tuple[list[globs.Glob], list[globs.Glob]]:
@@ -124,8 +162,6 @@ def _of_grep(given: dict[str, Any], places: globs.Places, wanted: list[bytes], u
             raise Refused(f"--type-add {text}: write --type-add TYPE:GLOB")
         types.setdefault(name, []).append(glob)
     for key, into in ("types", wanted), ("not_types", unwanted):
-        if "all" in given.get(key, []):
-            raise Refused(f"{'-t' if key == 'types' else '-T'} all is too long a list: name the types, or leave it out")
         found = [(to_bytes(glob), False) for name in given.get(key, []) for glob in _globs_of_type(name, types)]
         if found:
             into.append(globs.files(places, found))
@@ -136,23 +172,11 @@ def _of_grep(given: dict[str, Any], places: globs.Places, wanted: list[bytes], u
 
 
 def _globs_of_type(name: str, types: dict[str, list[str]]) -> list[str]:
+    if name == "all":
+        return sorted({glob for found in types.values() for glob in found})
     if name not in types:
         raise Refused(f"there is no type {name}: tgrep --type-list shows those that there are, and -g '*.{name}' takes files by their names")
     return types[name]
-
-
-def matcher(piece: Piece, patterns: tuple[tuple[bytes, ...], tuple[bytes, ...]]) -> Callable[[bytes], bool]:
-    """What `matches` says for a piece's patterns of names. Without globs that is quick."""
-    if patterns == ((globs.under(piece.under),), ()):
-        return lambda name: name.startswith(piece.under)
-    return lambda name: matches(name, patterns)
-
-
-def matches(name: bytes, patterns: tuple[tuple[bytes, ...], tuple[bytes, ...]]) -> bool:
-    """Whether a document's name has a match of each of the first patterns and of none of the others, as the program would say."""
-    quoted = quote(name)
-    wanted, unwanted = patterns
-    return all(compiled(one).search(quoted) for one in wanted) and not any(compiled(one).search(quoted) for one in unwanted)
 
 
 def piece_of(typed: str, real: str, is_folder: bool, root: str) -> Piece:

@@ -180,7 +180,10 @@ def _groups(given, paths, statuses, terminal):
             continue
         if "root" in given and is_folder and not places.is_below(real, root):
             raise arguments.Refused(f"{typed} is not below {given['root']}, which --root says: leave out one of them")
-        tree = root if places.is_below(real, root) or not is_folder else places.top_of(real) or real
+        if is_folder and given.get("apart"):
+            tree = real
+        else:
+            tree = root if places.is_below(real, root) or not is_folder else places.top_of(real) or real
         if not groups or groups[-1][0] != tree:
             groups.append((tree, []))
         groups[-1][1].append((typed, real, is_folder))
@@ -189,11 +192,12 @@ def _groups(given, paths, statuses, terminal):
 
 def _ask(given, root, group, terminal, is_single, is_last):
     """Asks the server of a tree, and gives the status. What the call has found so far goes from one tree to the next."""
+    is_apart = bool(given.get("apart")) and any(is_folder for _, _, is_folder in group)
     request = {
         "given": given,
         "token": places.token(),
         "root": root,
-        "mode": "all" * bool(given.get("no_ignore")) + "follow" * bool(given.get("follow")),
+        "mode": "all" * bool(given.get("no_ignore")) + "follow" * bool(given.get("follow")) + "apart" * is_apart,
         "paths": group,
         "here": os.getcwd(),
         "is_single": is_single,

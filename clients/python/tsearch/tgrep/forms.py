@@ -6,12 +6,15 @@ on with a few replacements; the other forms read each row.
 
 from __future__ import annotations
 
+import functools
 import re
 from collections.abc import Callable, Iterator
-from typing import Any, NamedTuple
+from typing import IO, Any, NamedTuple
 
 from ..answers import View
 from ..names import quote, unquote
+from ..query import Query
+from . import ere
 from .asking import Piece
 
 _QUOTED_NAME = re.compile(rb"^[^\0\n%]*%[^\0\n]*(?=\0)", re.MULTILINE)
@@ -20,6 +23,9 @@ _LINE = re.compile(rb"^([^\0\n]*)\0([0-9]+)([:-])()()([^\n]*)\n", re.MULTILINE)
 _COLUMN = re.compile(rb"^([^\0\n]*)\0([0-9]+)(:)([0-9]+):()([^\n]*)\n", re.MULTILINE)
 _SPANS = re.compile(rb"^([^\0\n]*)\0([0-9]+)(:)()([0-9,-]*):([^\n]*)\n", re.MULTILINE)
 _ROWS = {View.LINES: _LINE, View.CONTEXT: _LINE, View.COLUMN: _COLUMN, View.SPANS: _SPANS}
+_WORD = re.compile(rb"[0-9A-Za-z_]")
+# In bytes: of lines up to this length all matches that are empty are known.
+_LONG = 1 << 20
 _CONTROL = re.compile(rb"[\0-\x08\x0b-\x1f\x7f]")
 
 Spans = tuple[tuple[int, int], ...]
@@ -43,12 +49,29 @@ class Totals:
         self.lines = self.matches = self.files = self.written = 0
         self.last: bytes | None = None
 
-    def add(self, row: Row) -> None:
-        """Counts a line that was found."""
+    def add(self, row: Row, matches: int) -> None:
+        """Counts a line that was found, with so many matches."""
         self.lines += 1
-        self.matches += len(row.spans or ())
+        self.matches += matches
         self.files += row.name != self.last
         self.last = row.name
+
+
+class WholeRows:
+    """Makes whole rows of pieces that end anywhere. A row is put together once, however many pieces it has."""
+
+    def __init__(self) -> None:
+        self._parts: list[bytes] = []
+
+    def take(self, data: bytes) -> bytes:
+        """The rows that end in this piece; empty if none does."""
+        end = data.rfind(b"\n") + 1
+        self._parts.append(data[:end] if end else data)
+        if not end:
+            return b""
+        rows = b"".join(self._parts)
+        self._parts = [data[end:]]
+        return rows
 
 
 class Passing:
@@ -59,7 +82,7 @@ class Passing:
     ) -> None:
         self._before = b"\n" + quote(piece.under) + b"\0" * piece.is_file
         self._after = b"\n" + quote(piece.shown) + b"\0" * piece.is_file
-        self._rest = b""
+        self._rows = WholeRows()
         self._has_quoted = has_names and (has_quoted or quote(piece.shown) != piece.shown)
         self._is_terminal = is_terminal
         self._template = self._template_of(given, has_names, has_context)
@@ -78,10 +101,8 @@ class Passing:
 
     def take(self, data: bytes) -> bytes:
         """What is written for a piece of the rows."""
-        data = self._rest + data
-        end = data.rfind(b"\n") + 1
-        self._rest = data[end:]
-        return self._form(data[:end]) if end else b""
+        rows = self._rows.take(data)
+        return self._form(rows) if rows else b""
 
     def _form(self, rows: bytes) -> bytes:
         if self._line:
@@ -108,32 +129,83 @@ def shown_controls(data: bytes, keeps: bytes = b"") -> bytes:
     return _CONTROL.sub(lambda found: found[0] if found[0] == keeps else b"^%c" % (found[0][0] ^ 64), data)
 
 
-class Reading:
-    """Reads rows as they come."""
+class Empty:
+    """Where a query's matches are empty: the program names the others alone."""
 
-    def __init__(self, piece: Piece, view: View, spans: Iterator[Spans | None] | None = None, columns: Iterator[int] | None = None) -> None:
+    def __init__(self, query: Query) -> None:
+        self._query = query
+
+    @functools.cached_property
+    def _can_be(self) -> dict[tuple[bool, bool], bool]:
+        """Whether a match can be empty, at the begin of a line or not, and at its end or not. Asked once the program has taken the pattern."""
+        pattern = b"" if self._query.literal else self._query.pattern
+        tree = ere.read(pattern)
+        at_ends = ((is_begin, is_end) for is_begin in (False, True) for is_end in (False, True))
+        return {ends: pattern == self._query.pattern and ere.is_empty_at(tree, *ends) for ends in at_ends}
+
+    def matches(self, text: bytes, spans: Spans, has_end: bool = True) -> Spans:
+        """All matches of a line, of those that are not empty. One that is empty is not right behind another; and not at the end of a
+        text, if the line has no line feed there. In a very long line only those at its ends are known."""
+        if not any(self._can_be.values()):
+            return spans
+        is_inside = self._can_be[False, False] and len(text) <= _LONG
+        places = {place for place in (range(len(text) + 1) if is_inside else (0, len(text))) if self._is_at(text, place)}
+        if not has_end and text:
+            places.discard(len(text))
+        for begin, end in spans:
+            places.difference_update(range(begin, end + 1) if is_inside else [place for place in places if begin <= place <= end])
+        return tuple(sorted([*spans, *((place, place) for place in places)]))
+
+    def column(self, text: bytes, spans: Spans) -> int:
+        """Where the first match begins, from 1."""
+        first = spans[0][0] if spans else len(text)
+        if any(self._can_be.values()):
+            first = next((place for place in (range(first) if self._can_be[False, False] else (0,)) if self._is_at(text, place)), first)
+        return first + 1
+
+    def _is_at(self, text: bytes, place: int) -> bool:
+        if not self._can_be[place == 0, place == len(text)]:
+            return False
+        if self._query.whole_lines:
+            return not text
+        return not (self._query.whole_words and _WORD.search(text[max(place - 1, 0) : place + 1]))
+
+
+class Reading:
+    """Reads rows as they come.
+
+    has: tells which documents are searched; by default all.
+    places: for each row that is found its spans and its column, where another search has them.
+    """
+
+    def __init__(
+        self,
+        piece: Piece,
+        view: View,
+        has: Callable[[bytes], bool] = lambda name: True,
+        places: Iterator[tuple[Spans | None, int | None]] | None = None,
+    ) -> None:
         self._piece = piece
-        self._row = _ROWS[view]
-        self._spans, self._columns = spans, columns
-        self._rest = b""
-        self._quoted, self._shown = b"", b""
+        self._view = view
+        self._has = has
+        self._places = places
+        self._rows = WholeRows()
+        self._quoted, self._shown, self._is_wanted = b"", b"", False
 
     def take(self, data: bytes) -> Iterator[Row]:
         """The rows that end in a piece of them. A gap is left out."""
-        data = self._rest + data
-        end = data.rfind(b"\n") + 1
-        self._rest = data[end:]
-        for found in self._row.finditer(data, 0, end):
+        for found in _ROWS[self._view].finditer(self._rows.take(data)):
             quoted, number, kind, column, places, text = found.groups()
             if quoted != self._quoted:
-                self._quoted, self._shown = quoted, self._piece.displayed(unquote(quoted))
+                name = unquote(quoted)
+                self._quoted, self._shown, self._is_wanted = quoted, self._piece.displayed(name), self._has(name)
             is_found = kind == b":"
-            spans = spans_of(places) if self._row is _SPANS else None
-            if is_found and self._spans:
-                spans = next(self._spans)
-            at = int(column) if column else next(self._columns) if is_found and self._columns else None
+            spans = spans_of(places) if self._view is View.SPANS else None
+            at = int(column) if column else None
+            if is_found and self._places:
+                spans, at = next(self._places)
             line = int(number) + self._piece.line
-            if self._piece.first <= line and (line <= self._piece.last or not self._piece.last):
+            if self._is_wanted and self._piece.first <= line and (line <= self._piece.last or not self._piece.last):
                 yield Row(self._shown, line, is_found, text, spans, at)
 
 
@@ -143,14 +215,12 @@ def spans_of(places: bytes) -> Spans:
     return tuple((int(first) - 1, int(last)) for first, _, last in pairs)
 
 
-def all_spans(data: bytes) -> Iterator[Spans]:
-    """Those of each row of an answer with spans."""
-    return (spans_of(found[5]) for found in _SPANS.finditer(data))
-
-
-def all_columns(data: bytes) -> Iterator[int]:
-    """Those of each row of an answer with columns."""
-    return (int(found[4]) for found in _COLUMN.finditer(data))
+def places_of(rows: IO[bytes], view: View) -> Iterator[tuple[Spans | None, int | None]]:
+    """The spans or the columns of the rows of an answer with the ones or the others."""
+    for row in rows:
+        found = _ROWS[view].match(row)
+        assert found
+        yield (spans_of(found[5]), None) if view is View.SPANS else (None, int(found[4]))
 
 
 class Around:
@@ -223,7 +293,10 @@ class Colours:
 class Lines:
     """Writes rows as lines: with the path in each or above them, in colours, whole, or each match alone."""
 
-    def __init__(self, given: dict[str, Any], has_names: bool, is_terminal: bool, colours: Colours, has_context: bool, has_shown: bool) -> None:
+    def __init__(
+        self, given: dict[str, Any], has_names: bool, is_terminal: bool, colours: Colours, empty: Empty, has_context: bool, has_shown: bool
+    ) -> None:
+        self._empty = empty
         self._heading = bool(given.get("heading")) and has_names
         self._has_names = has_names and not self._heading
         self._has_numbers = given.get("line_number", True)
@@ -253,9 +326,9 @@ class Lines:
         return self._colours.paint(self._show(name), "path")
 
     def _matches(self, row: Row) -> Iterator[bytes]:
-        at = (row.column or 1) - 1
-        # a line with empty matches alone is shown once, where the first is
-        for span in row.spans or (() if self._only else ((at, at),)):
+        spans = row.spans or ()
+        # as for grep, -o shows no match that is empty
+        for span in spans if self._only else self._empty.matches(row.text, spans) or ((0, 0),):
             yield self._line(row._replace(spans=(span,)) if self._each else row, span[0] + 1, span)
 
     def _line(self, row: Row, column: int | None, only: tuple[int, int] | None) -> bytes:
@@ -266,8 +339,9 @@ class Lines:
         if self._has_numbers:
             parts.append(self._colours.paint(b"%d" % row.number, "line") + separator)
         if self._has_columns and row.is_found:
-            column = row.spans[0][0] + 1 if column is None and row.spans else column
-            parts.append(self._colours.paint(b"%d" % (column or 1), "column") + separator)
+            if column is None:
+                column = self._empty.column(row.text, row.spans) if row.spans is not None else 1
+            parts.append(self._colours.paint(b"%d" % column, "column") + separator)
         parts.append(self._text(row, only if self._only else None))
         return b"".join(parts) + b"\n"
 

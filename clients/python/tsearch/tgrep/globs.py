@@ -1,5 +1,4 @@
-"""Patterns of names for the program, made of globs. A name is a quoted one (`tsearch.names`), and the pattern an extended regular
-expression that Python's `re` reads in the same way: so it has no brackets that hold a special byte, and no classes."""
+"""Patterns of names for the program, made of globs. A name is a quoted one (`tsearch.names`)."""
 
 from __future__ import annotations
 
@@ -9,6 +8,7 @@ from ..names import quote
 from ..query import escape
 
 _ANY = b"[^/]*"
+_DEEP = b"(.*/)?"
 _END = b"$"
 _NOTHING = b"$a"
 _BYTE = b"(%[0-9A-F][0-9A-F]|[^/%])"
@@ -59,7 +59,7 @@ def folders(places: Places, globs: list[Glob]) -> bytes:
 
 def hidden(base: bytes) -> bytes:
     """The pattern for what is hidden below a folder: it, or a folder on the way, begins with a dot."""
-    return under(base) + rb"(.*/)?\."
+    return under(base) + _DEEP + rb"\."
 
 
 def at_depth(base: bytes, depth: int) -> bytes:
@@ -68,19 +68,30 @@ def at_depth(base: bytes, depth: int) -> bytes:
 
 
 def _one_matches(places: Places, globs: list[Glob], end: bytes) -> bytes:
-    return b"(" + b"|".join(_expression(places, glob, ignores_case, end) for glob, ignores_case in globs) + b")"
+    # what several begin and end with is written once: a pattern has a greatest length
+    found: dict[tuple[bytes, bytes], list[bytes]] = {}
+    for glob, ignores_case in globs:
+        begin, middle, last = _expression(places, glob, ignores_case, end)
+        found.setdefault((begin, last), []).append(middle)
+    return _one(*(begin + _one(*middles) + last for (begin, last), middles in found.items()))
 
 
-def _expression(places: Places, glob: bytes, ignores_case: bool, end: bytes) -> bytes:
+def _one(*expressions: bytes) -> bytes:
+    """The pattern that matches what one of some matches."""
+    return b"(" + b"|".join(expressions) + b")"
+
+
+def _expression(places: Places, glob: bytes, ignores_case: bool, end: bytes) -> tuple[bytes, bytes, bytes]:
+    """The expression for a glob: what comes before its own part, that, and what comes behind it."""
     while glob.endswith(b" ") and not glob.endswith(b"\\ "):
         glob = glob[:-1]
     is_of_folders = glob.endswith(b"/")
     if is_of_folders and end == _END:
-        return _NOTHING  # a folder is no file
+        return b"", _NOTHING, b""  # a folder is no file
     glob = glob.removesuffix(b"/")
-    begin = under(places.working) if b"/" in glob else under(places.searched) + b"(.*/)?"
+    begin = under(places.working) if b"/" in glob else under(places.searched) + _DEEP
     expression, _ = _sequence(glob.removeprefix(b"/"), 0, ignores_case, b"")
-    return begin + expression + (b"/" if is_of_folders else end)
+    return begin, expression, b"/" if is_of_folders else end
 
 
 def _sequence(glob: bytes, at: int, ignores_case: bool, ends: bytes) -> tuple[bytes, int]:
@@ -88,7 +99,8 @@ def _sequence(glob: bytes, at: int, ignores_case: bool, ends: bytes) -> tuple[by
     parts = []
     while at < len(glob) and glob[at : at + 1] not in (ends[:1], ends[1:]):
         if glob.startswith(b"**/", at) and (at == 0 or glob[at - 1] == 47):
-            parts.append(b"(.*/)?")
+            if parts[-1:] != [_DEEP]:
+                parts.append(_DEEP)
             at += 3
         elif glob[at:] == b"**" and (at == 0 or glob[at - 1] == 47):
             parts.append(b".*")
@@ -121,7 +133,7 @@ def _choice(glob: bytes, at: int, ignores_case: bool) -> tuple[bytes, int]:
         is_last = glob[at : at + 1] != b","
         at += 1
         if is_last:
-            return b"(" + b"|".join(parts) + b")", at
+            return _one(*parts), at
 
 
 def _end_of_brackets(glob: bytes, at: int) -> int:
@@ -153,7 +165,7 @@ def _one_of(wanted: set[int]) -> bytes:
     parts = [escape(quote(bytes([byte]))) for byte in sorted(wanted - set(plain))]
     if plain:
         parts.append(b"[" + _ranges(plain) + b"]")
-    return b"(" + b"|".join(parts) + b")" if parts else _NOTHING
+    return _one(*parts) if parts else _NOTHING
 
 
 def _ranges(values: list[int]) -> bytes:

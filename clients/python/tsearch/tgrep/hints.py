@@ -44,7 +44,7 @@ def hint(refused: PatternRefused) -> str:
     if refused.reason in ("group not closed", "bracket not closed", "bad interval"):
         return f"write \\{pattern[at]} for the character itself, or -F for a text"
     if refused.reason == "pattern too long" and refused.number:
-        return "the globs, types and names of an option make one pattern: write fewer of them"
+        return "--name and --not-name take at most 1,024 bytes each"
     if refused.reason == "pattern too long":
         return "write fewer patterns, or use rg -f FILE"
     return ""

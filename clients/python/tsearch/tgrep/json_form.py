@@ -8,7 +8,7 @@ import time
 from collections.abc import Callable
 from typing import Any
 
-from .forms import Row, Totals
+from .forms import Empty, Row, Totals
 
 
 class JsonLines:
@@ -17,9 +17,12 @@ class JsonLines:
     body_of: gives the bytes of a file, by its path as it is shown: the offset of a line is counted in it.
     """
 
-    def __init__(self, body_of: Callable[[bytes], bytes], totals: Totals, began: float, before: tuple[int, int] = (0, 0)) -> None:
+    def __init__(
+        self, body_of: Callable[[bytes], bytes], totals: Totals, empty: Empty, began: float, before: tuple[int, int] = (0, 0)
+    ) -> None:
         self._body_of = body_of
         self._totals = totals
+        self._empty = empty
         self._began = began
         self._name: bytes | None = None
         self._body, self._line, self._offset, self._before = b"", 1, 0, 0
@@ -42,15 +45,15 @@ class JsonLines:
         """How many bytes were written and searched."""
         return self._all_written, self._all_searched
 
-    def end(self, searched: int, is_last: bool = True) -> bytes:
-        """What is written after the last row, where so many files were searched: the summary if no other tree follows."""
+    def end(self, is_last: bool = True) -> bytes:
+        """What is written after the last row: the summary if no other tree follows. Like rg's it is about the files that are shown."""
         last = self._end()
         if not is_last:
             return last
         elapsed = _elapsed(self._began)
         totals = {
             "elapsed": elapsed,
-            "searches": searched,
+            "searches": self._totals.files,
             "searches_with_match": self._totals.files,
             "bytes_searched": self._all_searched,
             "bytes_printed": self._all_written,
@@ -96,11 +99,12 @@ class JsonLines:
         while self._line < row.number:
             self._offset = self._body.find(b"\n", self._offset) + 1 or len(self._body)
             self._line += 1
-        spans = (row.spans or ()) if row.is_found else ()
-        self._lines += row.is_found
-        self._matches += len(spans)
         end = self._offset + len(row.text)
         ending = b"" if end >= len(self._body) and not self._body.endswith(b"\n") else b"\n"
+        spans = self._empty.matches(row.text, row.spans, bool(ending)) if row.is_found and row.spans is not None else ()
+        self._lines += row.is_found
+        self._matches += len(spans)
+        self._totals.matches += len(spans)
         matches = [{"match": _data(row.text[begin:end]), "start": begin, "end": end} for begin, end in spans]
         content = {
             "path": _data(row.name),

@@ -1,7 +1,7 @@
 """The options of `tgrep`, in one table: `arguments` reads words by it, and `pages` makes `--help`, the manual page and completions.
 
 A row has the option's words, what follows them (None: nothing), the key that it sets, its value, and a text. Where something follows,
-the value is its kind: "text", "number", "list" (it may be given several times), or a tuple of the words that it may be. A row without
+the value is its kind: "text", "number", "size", "list" (it may be given several times), or a tuple of the words that it may be. A row without
 a key changes nothing, and says why. `client` imports this at each call, so it imports nothing.
 """
 
@@ -44,7 +44,9 @@ GROUPS = (
             (("--not-name",), "ERE", "not_names", "list", "only files whose paths do not match ERE"),
             (("--no-hidden",), None, "no_hidden", True, "no files and folders whose names begin with a dot"),
             (("--max-depth",), "N", "max_depth", "number", "only files at most N folders below a path; 1 is the files in it"),
+            (("--max-filesize",), "SIZE", "largest", "size", "no files of over SIZE bytes, or with K, M or G behind it kibibytes and so on"),
             (("--no-ignore", "--all", "-u", "--unrestricted"), None, "no_ignore", True, "also files that .gitignore, .ignore or .rgignore name"),
+            (("--no-ignore-parent",), None, "apart", True, "the rules of folders above a PATH do not hold in it"),
             (("--follow", "-R", "--dereference-recursive"), None, "follow", True, "follows symbolic links"),
             (("--files",), None, "files", True, "shows the paths of the files that would be searched"),
             (("--root",), "FOLDER", "root", "text", "the top of the tree that the server keeps"),
@@ -158,10 +160,8 @@ REFUSED = {
     "--pre-glob": "write COMMAND FILE | tgrep PATTERN",
     "--no-ignore-vcs": "write --no-ignore",
     "--no-ignore-dot": "write --no-ignore",
-    "--no-ignore-parent": "write --no-ignore",
     "--ignore-file": "write -g '!GLOB' for each of its lines",
     "--exclude-from": "write --exclude GLOB for each of its lines",
-    "--max-filesize": "write tgrep -l, or -g '!GLOB' for what is too large",
     "--trim": "write tgrep .. | sed",
     "--include-zero": "write tgrep -L for the files without a match",
     "--watch": "each call sees the files as they are, and the server keeps them: write tgrep PATTERN",

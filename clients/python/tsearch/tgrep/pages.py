@@ -27,7 +27,7 @@ _TEXTS = (
         "the folder. Later calls ask it, and see each change that was on the disk before. It ends after 30 minutes without a call, once 8 others "
         "were called since, with the folder, or by --stop. Other users cannot reach it: its socket is in $XDG_RUNTIME_DIR/tgrep, /tmp/tgrep-UID or "
         "~/.cache/tgrep, which is the user's alone. With watchman and its library for Python it is told what has changed; otherwise each call "
-        "looks through the folder.",
+        "looks through the folder. A write through mapped memory is told to nobody, so it may be seen later.",
     ),
     (
         "What is left out",
@@ -168,7 +168,9 @@ def zsh() -> str:
     for words, metavar, value, text in _all():
         for word in words:
             action = f"({' '.join(_choices(metavar, value))})" if _choices(metavar, value) else "_files" if metavar in ("FILE", "FOLDER") else ""
-            rows.append(f"    '*{word}[{quoted(text)}]{f':{quoted(metavar)}:{action}' if metavar else ''}' \\")
+            # what follows may come in the same word
+            joined = "" if metavar is None else "=" if word.startswith("--") else "+"
+            rows.append(f"    '*{word}{joined}[{quoted(text)}]{f':{quoted(metavar)}:{action}' if metavar else ''}' \\")
     return "\n".join(["#compdef tgrep", "_arguments -s -S \\", *rows, "    '*:file:_files'", ""])
 
 
@@ -178,7 +180,7 @@ def fish() -> str:
     for words, metavar, value, text in _all():
         names = " ".join(f"-l {word[2:]}" if word.startswith("--") else f"-s {word[1]}" for word in words)
         choices = _choices(metavar, value)
-        more = f" -x -a '{' '.join(choices)}'" if choices else " -r" if metavar else ""
+        more = f" -x -a '{' '.join(choices)}'" if choices else " -r" if metavar in ("FILE", "FOLDER") else " -x" if metavar else ""
         escaped = text.replace("\\", "\\\\").replace("'", "\\'")
         rows.append(f"complete -c tgrep {names}{more} -d '{escaped}'")
     return "\n".join(rows) + "\n"

@@ -67,7 +67,7 @@ class Reply:
     def progress(self, done: int, of: int) -> None:
         """Shows how many files are loaded, now and then."""
         now = time.monotonic()
-        if self._shows_progress and of > 1 and now - self._shown_at > _OFTEN:
+        if self._shows_progress and of > 1 and (done == of or now - self._shown_at > _OFTEN):
             self._shown_at = now
             self.frame(PROGRESS, progress_text(done, of))
 
@@ -154,7 +154,9 @@ class Server:
 
     async def _look_through(self) -> None:
         began = time.monotonic()
-        if not self._tree.unwatched:
+        if self._tree.unwatched:
+            self._tree.watch_again()
+        else:
             with contextlib.suppress(Error, OSError):
                 await self._tree.look_through()
         now = time.monotonic()

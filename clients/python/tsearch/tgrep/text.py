@@ -3,13 +3,14 @@
 from __future__ import annotations
 
 import asyncio
+import codecs
 import os
 import select
 from collections.abc import AsyncIterator, Callable
 from typing import NamedTuple
 
 from .. import aio
-from ..folder import MAX_BODY, MAX_LINE
+from ..folder import MAX_BODY, MAX_LINE, decoder_of, mark_of
 from .arguments import Refused
 
 
@@ -48,11 +49,16 @@ class Text:
         self._size = 0
         self._rest, self._line, self._offset = b"", 0, 0
         self._is_end = False
+        self._decoder: codecs.IncrementalDecoder | None = None
 
     @property
     def sizes(self) -> dict[bytes, int]:
         """How many bytes are read, by the name of the document."""
         return {} if self.left_out else {self.name: self._size}
+
+    def size(self, name: bytes) -> int:
+        """How many bytes are read."""
+        return self._size
 
     def path(self, name: bytes) -> bytes:
         """It has none."""
@@ -79,8 +85,8 @@ class Text:
 
     async def _windows(self, around: int) -> AsyncIterator[Window]:
         done = 0
+        await self._read_begin()
         while not self._is_done:
-            await self._read()
             if b"\0" in self._rest:
                 self.left_out[self.name] = "binary"
                 return
@@ -99,6 +105,7 @@ class Text:
             if is_whole and not self._is_done:
                 await self._skip_line()
                 done = self._line
+            await self._read()
 
     @property
     def _is_done(self) -> bool:
@@ -135,12 +142,25 @@ class Text:
             await self._read()
         self._drop(self._rest.find(b"\n") + 1 or len(self._rest))
 
+    async def _read_begin(self) -> None:
+        """Reads so much that a byte order mark would be known. It is no part of the text."""
+        while not self._is_end and len(self._rest) < 3:
+            await self._read()
+            if self._rest[-1:] == b"\n":
+                break
+        mark = mark_of(self._rest)
+        self._decoder = decoder_of(mark)
+        self._rest = self._decoded(self._rest[len(mark) :])
+
+    def _decoded(self, data: bytes) -> bytes:
+        return self._decoder.decode(data, self._is_end).encode() if self._decoder else data
+
     async def _read(self) -> None:
         """Reads what there is, at most what a block can have."""
         if self._is_end:
             return
         await _until_readable(self._descriptor)
-        parts = [self._rest]
+        parts = []
         left = MAX_BODY - len(self._rest)
         while left > 0:
             try:
@@ -152,8 +172,9 @@ class Text:
             left -= len(data)
             if self._is_end or not select.select([self._descriptor], [], [], 0)[0]:
                 break
-        self._size += sum(map(len, parts[1:]))
-        self._rest = b"".join(parts)
+        data = b"".join(parts)
+        self._size += len(data)
+        self._rest += self._decoded(data)
 
 
 def _after_lines(body: bytes, count: int) -> int:

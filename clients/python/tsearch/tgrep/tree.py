@@ -12,7 +12,7 @@ from typing import Protocol
 from .. import aio
 from ..answers import Answer
 from ..errors import Ended, Error
-from ..folder import Files
+from ..folder import Files, text_of
 from ..query import Query
 from .watched import Unwatched, Watch
 
@@ -38,6 +38,9 @@ class Documents(Protocol):
     def sizes(self) -> dict[bytes, int]:
         """The lengths of the documents, in bytes, by their names."""
 
+    def size(self, name: bytes) -> int:
+        """The length of a document, or of what is left out, in bytes."""
+
     @property
     def has_quoted(self) -> bool:
         """Whether a session writes the name of a document in another way than it is."""
@@ -62,7 +65,7 @@ class Tree:
     """A folder that is kept in a session.
 
     root: its absolute path.
-    mode: with `all` in it no rules hold, and with `follow` symbolic links are followed.
+    mode: with `all` in it no rules hold, with `apart` none of the folders above, and with `follow` symbolic links are followed.
     messages: is called with what the program writes to standard error; it may be one that is compiled first.
     """
 
@@ -82,7 +85,7 @@ class Tree:
         self._asked = self._done = 0
         self.progress: Callable[[int, int], None] = lambda done, of: None
         # whether files are looked at already, and whether the first publish is sent
-        self.has_begun = False
+        self.has_begun = self._is_measured = False
         self.is_sent = asyncio.Event()
 
     @property
@@ -115,8 +118,11 @@ class Tree:
     @property
     def sizes(self) -> dict[bytes, int]:
         """The lengths of the documents, in bytes."""
-        known, held = self.files.sizes, self.files.held
-        return {name: known.get(name, 0) for name in held}
+        return {name: self.size(name) for name in self.files.held}
+
+    def size(self, name: bytes) -> int:
+        """The length of a document, or of what is left out."""
+        return self.files.size(name)
 
     def path(self, name: bytes) -> bytes:
         """The path of a document's file."""
@@ -126,7 +132,7 @@ class Tree:
         """The bytes of a document."""
         try:
             with open(self.path(name), "rb") as file:
-                return file.read()
+                return text_of(file.read())
         except OSError:
             return b""
 
@@ -135,9 +141,9 @@ class Tree:
         self._watching = self._begun_to_watch()
         try:
             self._session = await aio.Session.start(readers=readers(), messages=self._messages)
-            is_all, follows = "all" in self._mode, "follow" in self._mode
+            rules, follows, is_apart = (False if "all" in self._mode else None), "follow" in self._mode, "apart" in self._mode
             self._folder = aio.Folder(
-                self._session, self.root, git=False if is_all else None, follows=follows, loads=True, progress=self._has_progress
+                self._session, self.root, git=rules, follows=follows, is_apart=is_apart, progress=self._has_progress
             )
             self.has_begun = True
             await self._folder.refresh()
@@ -145,7 +151,8 @@ class Tree:
             self.is_sent.set()
 
     def _has_progress(self, done: int, of: int) -> None:
-        if done == 0:
+        if not self._is_measured:
+            self._is_measured = True
             self._need_memory()
         if done == of:
             # who waits sends its search right behind the publish: afterwards the program is busy for a while
@@ -154,7 +161,7 @@ class Tree:
 
     def _need_memory(self) -> None:
         """`TooLarge` if the text to load takes more memory than there is."""
-        text = sum(self.files.sizes.values())
+        text = self.files.listed_bytes
         with contextlib.suppress(OSError, ValueError), open("/proc/meminfo", "rb") as file:
             free = next(int(line.split()[1]) * 1024 for line in file if line.startswith(b"MemAvailable:"))
             if text * _TIMES > free * _SHARE:
@@ -178,8 +185,14 @@ class Tree:
         if self._watches:
             try:
                 self._watch = Watch(self.root)
+                self.unwatched = ""
             except Unwatched as error:
                 self.unwatched = str(error)
+
+    def watch_again(self) -> None:
+        """Begins to watch again, if watchman had failed: it may have been too busy for a while."""
+        if self._watches and self._watch is None and self._watching and self._watching.done():
+            self._watching = self._begun_to_watch()
 
     async def fresh(self) -> None:
         """Returns once searches see each change that was on the disk before the call. Calls that come while a look is made share the
