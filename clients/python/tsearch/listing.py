@@ -12,6 +12,8 @@ from .ignored import GIT, RULE_FILES, Chain, rules_at
 from .repository import Repository, Unknown, repository_above, repository_at, rules_of, rules_of_user, settings_of_user, tracked
 
 _GIT_FOLDER = b".git"
+# What watchman writes into a folder for a moment, to know that it has been told of all changes before.
+_COOKIE = b".watchman-cookie-"
 # What is below such folders watchman does not tell, by its default.
 _UNWATCHED = {b".svn", b".hg"}
 _NOT_THERE = (FileNotFoundError, NotADirectoryError)
@@ -167,7 +169,7 @@ class Lister:
 
     def _is_wanted(self, entry: os.DirEntry[bytes], chain: Chain, path: bytes) -> bool | None:
         """Whether an entry is a folder; None if it is left out."""
-        if entry.name == _GIT_FOLDER or (entry.is_symlink() and not self._follows):
+        if entry.name == _GIT_FOLDER or entry.name.startswith(_COOKIE) or (entry.is_symlink() and not self._follows):
             return None
         is_folder = entry.is_dir()
         return None if chain.ignores(self._from_top + path + b"/" * is_folder) else is_folder

@@ -206,6 +206,10 @@ def _ask(given, root, group, terminal, is_single, is_last):
         "terminal": terminal.is_terminal,
         "progress": terminal.shows_progress,
     }
+    if given.get("order") == "socket":
+        from . import announcing
+
+        return announcing.announce(root, request["mode"], terminal)
     if root is None or given.get("no_server"):
         return _alone(request, terminal)
     try:
@@ -220,7 +224,7 @@ def _ask_at(path, request, terminal):
     given, root = request["given"], request["root"]
     line = ascii(request).encode() + b"\n"
     for _ in range(_TRIES):
-        connection = _connect(path) or (None if given.get("order") else _start(path, root, request["mode"], terminal))
+        connection = connect(path) or (None if given.get("order") else start(path, root, request["mode"], terminal))
         if connection is None:
             break
         try:
@@ -240,7 +244,7 @@ def _ask_at(path, request, terminal):
     return _alone(request, terminal)
 
 
-def _connect(path):
+def connect(path):
     """A connection to the server, or None if there is none."""
     connection = socket.socket(socket.AF_UNIX, socket.SOCK_STREAM)
     try:
@@ -256,12 +260,12 @@ def _connect(path):
         raise
 
 
-def _start(path, root, mode, terminal):
+def start(path, root, mode, terminal):
     """A connection to a new server, or None if none starts: then the call goes on without, and says why."""
     from . import starting
 
     reason = starting.start(path, root, mode)
-    connection = _connect(path)
+    connection = connect(path)
     if connection is None:
         terminal.say(f"there is no server, so the files are read for this call alone: {reason or 'it has ended at once'}")
     return connection

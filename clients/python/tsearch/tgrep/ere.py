@@ -1,11 +1,12 @@
-"""Extended regular expressions, for two questions that are not put to the program: which names that it has not contain a match, and where in
-a line a match is empty. Each pattern has to be one that the program takes. A name is looked at once, whatever the pattern: there is no
+"""Extended regular expressions, for questions that are not put to the program: which names that it has not contain a match, where in a line
+a match is empty, and what its groups are (`groups`). Each pattern has to be one that the program takes. A name is looked at once, whatever the pattern: there is no
 backtracking."""
 
 from __future__ import annotations
 
 import functools
 import re
+from collections.abc import Iterable
 from typing import NamedTuple
 
 _CLASSES = {
@@ -52,24 +53,32 @@ class Repeat(NamedTuple):
     most: int | None
 
 
-Tree = Bytes | Anchor | Sequence | Choice | Repeat
+class Group(NamedTuple):
+    """What stands between parentheses, with its number from 1."""
+
+    number: int
+    part: Tree
 
 
-def read(pattern: bytes) -> Tree:
-    """The tree of a pattern."""
-    open_groups: list[tuple[list[Tree], list[Tree]]] = []
+Tree = Bytes | Anchor | Sequence | Choice | Repeat | Group
+
+
+def read(pattern: bytes, ignores_case: bool = False) -> Tree:
+    """The tree of a pattern. Where case is ignored, a letter that stands for itself or in brackets has both its cases."""
+    open_groups: list[tuple[int, list[Tree], list[Tree]]] = []
     before: list[Tree] = []
     parts: list[Tree] = []
-    at = 0
+    at = count = 0
     while at < len(pattern):
         byte = pattern[at : at + 1]
         if byte == b"(":
-            open_groups.append((before, parts))
+            count += 1
+            open_groups.append((count, before, parts))
             before, parts = [], []
         elif byte == b")" and open_groups:
             group = _choice(before, parts)
-            before, parts = open_groups.pop()
-            parts.append(group)
+            number, before, parts = open_groups.pop()
+            parts.append(Group(number, group))
         elif byte == b"|":
             before, parts = [*before, Sequence(parts)], []
         elif repeat := _repeat(pattern, at):
@@ -77,7 +86,7 @@ def read(pattern: bytes) -> Tree:
             parts[-1] = Repeat(parts[-1], least, most)
             continue
         else:
-            part, at = _one(pattern, at)
+            part, at = _one(pattern, at, ignores_case)
             parts.append(part)
             continue
         at += 1
@@ -100,7 +109,7 @@ def _repeat(pattern: bytes, at: int) -> tuple[int, int | None, int] | None:
     return least, int(found[3]) if found[3] else None if found[2] else least, found.end()
 
 
-def _one(pattern: bytes, at: int) -> tuple[Tree, int]:
+def _one(pattern: bytes, at: int, ignores_case: bool) -> tuple[Tree, int]:
     """The tree for one byte or an anchor, and where its part of the pattern ends."""
     byte = pattern[at]
     if byte in b"^$":
@@ -108,12 +117,18 @@ def _one(pattern: bytes, at: int) -> tuple[Tree, int]:
     if byte == 46:
         return Bytes(_ANY), at + 1
     if byte == 91:
-        return _brackets(pattern, at)
+        return _brackets(pattern, at, ignores_case)
     at += byte == 92
-    return Bytes(frozenset(pattern[at : at + 1])), at + 1
+    return Bytes(_cases(pattern[at : at + 1], ignores_case)), at + 1
 
 
-def _brackets(pattern: bytes, at: int) -> tuple[Tree, int]:
+def _cases(values: Iterable[int], ignores_case: bool) -> frozenset[int]:
+    if not ignores_case:
+        return frozenset(values)
+    return frozenset(case[0] for value in values for case in (bytes([value]).lower(), bytes([value]).upper()))
+
+
+def _brackets(pattern: bytes, at: int, ignores_case: bool) -> tuple[Tree, int]:
     at += 1
     is_negated = pattern[at : at + 1] == b"^"
     at += is_negated
@@ -131,7 +146,8 @@ def _brackets(pattern: bytes, at: int) -> tuple[Tree, int]:
         if pattern[at : at + 1] == b"-" and pattern[at + 1 : at + 2] != b"]":
             last, at = _end_of_range(pattern, at + 1)
         values |= set(range(first, last + 1))
-    return Bytes(_ANY - values if is_negated else frozenset(values)), at + 1
+    found_values = _cases(values, ignores_case)
+    return Bytes(_ANY - found_values if is_negated else found_values), at + 1
 
 
 def _end_of_range(pattern: bytes, at: int) -> tuple[int, int]:
@@ -156,6 +172,8 @@ def is_empty_at(tree: Tree, is_begin: bool, is_end: bool) -> bool:
             return any(is_empty_at(part, is_begin, is_end) for part in parts)
         case Repeat(part, least, _):
             return least == 0 or is_empty_at(part, is_begin, is_end)
+        case Group(_, part):
+            return is_empty_at(part, is_begin, is_end)
     return False
 
 
@@ -199,6 +217,8 @@ class Names:
                 return self._step(None, [self._add(part, after) for part in parts])
             case Repeat(part, least, most):
                 return self._add_repeat(part, least, most, after)
+            case Group(_, part):
+                return self._add(part, after)
         raise AssertionError(tree)
 
     def _add_repeat(self, part: Tree, least: int, most: int | None, after: int) -> int:

@@ -24,6 +24,8 @@ from .answering import Call, Part
 from .aside import Aside
 from .asking import inside, piece_of
 from .client import DIFFERS, ELSEWHERE, ERROR, OUTPUT, PROGRESS, STATUS
+from .editor import Editor, is_editor
+from .following import Following
 from .spool import Spool
 from .tree import Tree
 
@@ -37,6 +39,8 @@ _MOST_SERVERS = 8
 _LOOK = 60.0
 _REST = 100
 _OFTEN = 0.1
+# And how long editors have to be silent before it.
+_SILENCE = 5.0
 # In seconds: how long a server that ends may take to answer the calls that it has.
 _TO_END = 60.0
 _TRIES = 3
@@ -98,10 +102,12 @@ class Server:
         self._looks_at = self._began + self._pause
         self._calls = 0
         self._open: set[asyncio.Task[None]] = set()
-        self._replies: set[Reply] = set()
+        self._editors: set[asyncio.Task[None]] = set()
+        self._replies: set[Reply | Editor] = set()
         self._ending = asyncio.Event()
         self._tree = Tree(root, mode, self._pass_message)
         self._tree.progress = self._progress
+        self._following: Following | None = None
         self._has_said = False
         self._loading: asyncio.Task[None] | None = None
         self._looking: asyncio.Task[None] | None = None
@@ -115,8 +121,8 @@ class Server:
         server = await asyncio.start_unix_server(self._connected, sock=listening, limit=_MOST_REQUEST)
         await self._until_end()
         server.close()
-        if self._open:
-            await asyncio.wait(self._open, timeout=_TO_END)
+        if self._open or self._editors:
+            await asyncio.wait({*self._open, *self._editors}, timeout=_TO_END)
         self._loading.cancel()
         with contextlib.suppress(asyncio.CancelledError, Error, OSError):
             await self._loading
@@ -146,7 +152,7 @@ class Server:
         """Whether the folder is there, and calls have come lately, or are answered."""
         if _identity_of(self._root) != self._identity:
             return False
-        return bool(self._open) or (time.monotonic() - self._called < self._idle and _used_since(self._path) < _MOST_SERVERS)
+        return bool(self._open or self._editors) or (time.monotonic() - self._called < self._idle and _used_since(self._path) < _MOST_SERVERS)
 
     def _has_socket(self) -> bool:
         """Whether calls can come: the socket may be removed, and another server may have made one of the same name."""
@@ -205,7 +211,11 @@ class Server:
             reply.error(b"tgrep: this is the server of another user\n")
             reply.end(2)
             return
-        request = ast.literal_eval((await reader.readuntil(b"\n")).decode())
+        line = await reader.readuntil(b"\n")
+        if is_editor(line):
+            await self._serve_editor(line, reader, writer)
+            return
+        request = ast.literal_eval(line.decode())
         reply = Reply(writer, request["progress"])
         if request["token"] != self._token or request["root"] != self._root or _identity_of(self._root) != self._identity or self._ending.is_set():
             self._leave()
@@ -226,6 +236,58 @@ class Server:
         finally:
             reply.close()
         await writer.drain()
+
+    # Editors.
+
+    async def _serve_editor(self, line: bytes, reader: asyncio.StreamReader, writer: asyncio.StreamWriter) -> None:
+        """Answers an editor, which stays. Looks through the folder do not wait for it to go."""
+        task = asyncio.current_task()
+        assert task
+        self._open.discard(task)
+        self._editors.add(task)
+        editor = Editor(self, reader, writer)
+        self._replies.add(editor)
+        try:
+            await editor.serve(line)
+        finally:
+            self._replies.discard(editor)
+            self._editors.discard(task)
+
+    @property
+    def tree(self) -> Tree:
+        """The tree."""
+        return self._tree
+
+    @property
+    def following(self) -> Following:
+        """What is noted of its changes, once somebody wants to know."""
+        self._following = self._following or Following(self._tree)
+        return self._following
+
+    @property
+    def ending(self) -> asyncio.Event:
+        """Set once the server ends."""
+        return self._ending
+
+    async def ready(self) -> None:
+        """Returns once the tree is loaded, with the errors of that. A look through the folder waits until editors are silent."""
+        await self._loaded()
+        self._calls += 1
+        self._called = time.monotonic()
+        self._looks_at = max(self._looks_at, self._called + _SILENCE)
+
+    def admits(self, token: str) -> bool:
+        """Whether the server is one for who has this token, if it is said; else it makes room for another."""
+        if self._ending.is_set() or (token and token != self._token):
+            self._leave()
+            return False
+        return True
+
+    def about(self) -> dict[str, object]:
+        """The process, the calls, and the time since the start."""
+        return {"process": os.getpid(), "calls": self._calls, "seconds": int(time.monotonic() - self._began)}
+
+    # Calls.
 
     async def _whole_answer(self, request: dict[str, Any], reply: Reply) -> None:
         await self._answer(request, reply)

@@ -10,7 +10,7 @@ from collections.abc import Callable
 from typing import Protocol
 
 from .. import aio
-from ..answers import Answer
+from ..answers import Answer, Published
 from ..errors import Ended, Error
 from ..folder import Files, text_of
 from ..query import Query
@@ -61,6 +61,16 @@ def readers() -> int:
     return min(len(os.sched_getaffinity(0)), _MOST_READERS)
 
 
+class Notes(Protocol):
+    """Who is told what changes in a tree."""
+
+    async def change(self, name: bytes) -> None:
+        """A document that is there is about to change."""
+
+    def published(self, published: Published) -> None:
+        """Changes are published, or the program has been started again."""
+
+
 class Tree:
     """A folder that is kept in a session.
 
@@ -81,9 +91,12 @@ class Tree:
         self.unwatched = "symbolic links are followed" if "follow" in mode else ""
         self._folder: aio.Folder | None = None
         self._session: aio.Session | None = None
-        self._lock = asyncio.Lock()
+        # held during each look
+        self.lock = asyncio.Lock()
         self._asked = self._done = 0
+        self._looks: set[asyncio.Task[None]] = set()
         self.progress: Callable[[int, int], None] = lambda done, of: None
+        self.notes: Notes | None = None
         # whether files are looked at already, and whether the first publish is sent
         self.has_begun = self._is_measured = False
         self.is_sent = asyncio.Event()
@@ -143,12 +156,20 @@ class Tree:
             self._session = await aio.Session.start(readers=readers(), messages=self._messages)
             rules, follows, is_apart = (False if "all" in self._mode else None), "follow" in self._mode, "apart" in self._mode
             self._folder = aio.Folder(
-                self._session, self.root, git=rules, follows=follows, is_apart=is_apart, progress=self._has_progress
+                self._session, self.root, git=rules, follows=follows, is_apart=is_apart, progress=self._has_progress, before_change=self._change
             )
             self.has_begun = True
             await self._folder.refresh()
         finally:
             self.is_sent.set()
+
+    async def _change(self, name: bytes) -> None:
+        if self.notes:
+            await self.notes.change(name)
+
+    def _note(self, published: Published | None) -> None:
+        if self.notes and published:
+            self.notes.published(published)
 
     def _has_progress(self, done: int, of: int) -> None:
         if not self._is_measured:
@@ -196,10 +217,16 @@ class Tree:
 
     async def fresh(self) -> None:
         """Returns once searches see each change that was on the disk before the call. Calls that come while a look is made share the
-        next one."""
+        next one. A look goes on if its caller is cancelled: what it was told is told once."""
+        look = asyncio.create_task(self._fresh())
+        self._looks.add(look)
+        look.add_done_callback(self._looks.discard)
+        await asyncio.shield(look)
+
+    async def _fresh(self) -> None:
         self._asked += 1
         wanted = self._asked
-        async with self._lock:
+        async with self.lock:
             if self._done < wanted:
                 now = self._asked
                 await self._look()
@@ -211,11 +238,11 @@ class Tree:
         for _ in range(_MOST_TRIES):
             try:
                 if changed is None or self.files.needs_look(changed):
-                    await self._folder.refresh(changed)
+                    self._note((await self._folder.refresh(changed)).published)
                 self._sure = watch
                 return
             except Ended:
-                await self._folder.restart()
+                self._note(await self._folder.restart())
                 changed = None
 
     def _changes(self) -> tuple[Watch | None, set[bytes] | None]:
@@ -242,9 +269,9 @@ class Tree:
 
     async def again(self) -> None:
         """Starts the program again, if it has ended, with all files."""
-        async with self._lock:
+        async with self.lock:
             assert self._folder
-            await self._folder.restart()
+            self._note(await self._folder.restart())
 
     async def close(self) -> None:
         """Ends the program."""
@@ -257,5 +284,10 @@ class Tree:
 
 async def find(documents: Documents, query: Query) -> Answer:
     """The answer to a query, which may take two searches."""
+    return await find_in(documents.session, query)
+
+
+async def find_in(session: aio.Session, query: Query) -> Answer:
+    """The same in a session."""
     options = {field: getattr(query, field) for field in query.__dataclass_fields__ if field != "pattern"}
-    return await documents.session.find(query.pattern, **options)
+    return await session.find(query.pattern, **options)

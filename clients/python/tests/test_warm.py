@@ -1,0 +1,478 @@
+"""The server's protocol for editors (docs/SERVER.md), with the client in Python and the one for Node."""
+
+from __future__ import annotations
+
+import base64
+import contextlib
+import json
+import os
+import pathlib
+import random
+import re
+import shutil
+import signal
+import socket
+import subprocess
+import sys
+import tempfile
+import unittest
+import unittest.mock
+
+from helpers import SLOW, TOP, Model, found_in, lines_of, slow_documents, until
+from tsearch.errors import Error
+from tsearch.tgrep.groups import groups_of
+from tsearch.warm import Warm, WarmRefused
+
+TGREP = [sys.executable, str(TOP / "tgrep")]
+NODE = TOP / "clients/node/tgrep.js"
+
+
+class Place(unittest.TestCase):
+    """A folder of its own for each test, with servers of its own."""
+
+    def setUp(self) -> None:
+        room = tempfile.TemporaryDirectory(ignore_cleanup_errors=True)
+        self.addCleanup(room.cleanup)
+        self.top = pathlib.Path(os.path.realpath(room.name), "tree")
+        self.top.mkdir()
+        (self.top.parent / "runtime").mkdir(mode=0o700)
+        more = {"HOME": room.name, "XDG_RUNTIME_DIR": f"{room.name}/runtime", "TGREP_IDLE": "60"}
+        patch = unittest.mock.patch.dict(os.environ, more)
+        patch.start()
+        self.addCleanup(patch.stop)
+        self.addCleanup(lambda: subprocess.run([*TGREP, "--stop"], cwd=self.top, capture_output=True, check=False))
+
+    def write(self, documents: dict[bytes, bytes]) -> None:
+        for name, body in documents.items():
+            path = self.top / os.fsdecode(name)
+            path.parent.mkdir(parents=True, exist_ok=True)
+            path.write_bytes(body)
+
+    def warm(self) -> Warm:
+        warm = Warm(self.top)
+        self.addCleanup(warm.close)
+        return warm
+
+
+def text_of(shown: str | dict[str, str]) -> bytes:
+    return shown.encode() if isinstance(shown, str) else base64.b64decode(shown["base64"])
+
+
+def asked(options: dict) -> dict:
+    """The options of a find in Python as those of the protocol."""
+    given = {key: [one] if key in ("names", "not_names") and isinstance(one, str) else one for key, one in options.items() if one is not None}
+    for key, show in ("names_only", "names"), ("counts", "counts"), ("header_only", "nothing"):
+        if given.pop(key, False):
+            given["show"] = show
+    return given
+
+
+def shown_by(warm: Warm, pattern: str, **options: object) -> tuple[int, bool, list]:
+    """What a find shows, as `found_in` says it; without gaps."""
+    rows: list = []
+    *_, last = parts = list(warm.parts(warm.send("find", pattern=pattern, **asked(options))))
+    for part in parts:
+        rows += [text_of(name) for name in part.get("names", [])]
+        rows += [(text_of(one["name"]), one["count"]) for one in part.get("counts", [])]
+        for document in part.get("documents", []):
+            for line in document["lines"]:
+                spans = tuple(map(tuple, line["spans"])) if "spans" in line else None
+                row = text_of(document["name"]), line["line"], text_of(line["text"]), line.get("column"), spans
+                rows.append((*row, "around" not in line))
+    return last["count"], last["more"], rows
+
+
+class Finds(Place):
+    def compare(self, warm: Warm, documents: dict[bytes, bytes], seed: int, count: int = 60) -> None:
+        source = random.Random(seed)
+        model = Model(seed)
+        for _ in range(count):
+            pattern, options = source.choice(model.PATTERNS), model.options(source)
+            with self.subTest(pattern=pattern, options=options):
+                count, more, rows = found_in(documents, pattern, **options)
+                self.assertEqual(shown_by(warm, pattern, **options), (count, more, [row for row in rows if row]))
+
+    def test_options(self) -> None:
+        model = Model(1)
+        self.write(model.documents)
+        self.compare(self.warm(), model.documents, 2)
+
+    def test_overlays(self) -> None:
+        model = Model(3)
+        self.write(model.documents)
+        warm, source = self.warm(), random.Random(4)
+        names = sorted(model.documents)
+        documents = dict(model.documents)
+        for name in [*source.sample(names, 12), b"new/a.c", b"\x01new.c"]:
+            documents[name] = model.body(source)
+            warm.ask("overlay", name=name.decode(), text=documents[name].decode())
+        self.compare(warm, documents, 5)
+        for name in source.sample(names, 20):
+            warm.ask("release", name=name.decode())
+            documents[name] = model.documents[name]
+        self.compare(warm, documents, 6, 30)
+        warm.ask("release")
+        self.compare(warm, model.documents, 7, 20)
+
+    def test_more_overlays_than_patterns_can_name(self) -> None:
+        """Then names of the tree are dropped once they are found, and what is cut is asked for anew."""
+        model = Model(8, 900)
+        long = {b"a" * 60 + name.replace(b" ", b"") for name in model.documents}
+        source = random.Random(9)
+        files = {name: model.body(source) for name in long}
+        self.write(files)
+        warm = self.warm()
+        documents = dict(files)
+        for name in sorted(long)[:700]:
+            documents[name] = model.body(source) if source.random() < 0.1 else b"nothing\n"
+            warm.send("overlay", name=name.decode(), text=documents[name].decode())
+        self.compare(warm, documents, 10, 25)
+
+    def test_a_thousand_edits(self) -> None:
+        model, source = Model(11), random.Random(12)
+        self.write(model.documents)
+        warm = self.warm()
+        lines: list[bytes] = []
+        for number in range(1_000):
+            first = source.randint(0, len(lines))
+            last = source.randint(first, min(len(lines), first + 5))
+            new = lines_of(model.body(source)) if source.random() < 0.7 else []
+            lines[first:last] = new
+            warm.ask("edit", name="dir 1/f1.c", first=first, last=last, lines=[line.decode() for line in new])
+            if number % 100 == 99:
+                body = b"".join(line + b"\n" for line in lines)
+                found = found_in({**model.documents, b"dir 1/f1.c": body}, "alpha", spans=True)
+                self.assertEqual(shown_by(warm, "alpha", spans=True), found)
+
+    def test_nobody_else_sees_an_overlay(self) -> None:
+        self.write({b"a": b"foo\n"})
+        one, other = self.warm(), self.warm()
+        one.ask("overlay", name="a", text="bar unsaved\n")
+        self.assertEqual(shown_by(one, "foo|bar")[2], [(b"a", 1, b"bar unsaved", None, None, True)])
+        self.assertEqual(shown_by(other, "foo|bar")[2], [(b"a", 1, b"foo", None, None, True)])
+        done = subprocess.run([*TGREP, "foo|bar"], cwd=self.top, capture_output=True, check=False, stdin=subprocess.DEVNULL)
+        self.assertEqual(done.stdout, b"a:1:foo\n")
+        one.close()
+        self.assertEqual(shown_by(self.warm(), "foo|bar")[0], 1)
+
+    def test_what_cannot_be_searched_is_named(self) -> None:
+        self.write({b"a": b"foo\n", b"b": b"foo\n"})
+        warm = self.warm()
+        warm.ask("overlay", name="a", text="foo\0\n")
+        *_, last = parts = list(warm.parts(warm.send("find", pattern="foo")))
+        self.assertEqual([one["name"] for part in parts for one in part.get("documents", [])], ["b"])
+        self.assertEqual(last["missing"], [{"name": "a", "reason": "byte 0 in body"}])
+
+    def test_what_watchman_writes_is_no_file(self) -> None:
+        self.write({b"a": b"foo\n", b".watchman-cookie-vm-1-0": b"foo\n"})
+        self.assertEqual([row[0] for row in shown_by(self.warm(), "foo")[2]], [b"a"])
+
+    def test_globs_folders_and_types(self) -> None:
+        self.write({name: b"foo\n" for name in (b"a.c", b"a.h", b"src/a.c", b"src/b.py", b"src/.x/c.c", b"out/a.c")})
+        warm = self.warm()
+        for options, wanted in (
+            ({"globs": ["*.c"]}, "a.c out/a.c src/.x/c.c src/a.c"),
+            ({"globs": ["*.c", "!out/"]}, "a.c src/.x/c.c src/a.c"),
+            ({"globs": ["*.c"], "folder": "src"}, "src/.x/c.c src/a.c"),
+            ({"folder": "src/", "no_hidden": True}, "src/a.c src/b.py"),
+            ({"types": ["py"]}, "src/b.py"),
+            ({"not_types": ["c"], "names": ["^src"]}, "src/b.py"),
+        ):
+            with self.subTest(options=options):
+                self.assertEqual([row[0] for row in shown_by(warm, "foo", **options)[2]], [name.encode() for name in wanted.split()])
+
+
+class Forms(Place):
+    def test_units(self) -> None:
+        line = "aé😀b".encode() + b"\xff\xfe" + "xé".encode()
+        self.write({b"u": line + b"\n"})
+        warm = self.warm()
+        for unit, wanted in ("bytes", [7, 8]), ("utf-16", [4, 5]), ("characters", [3, 4]):
+            (_, found), = warm.find("b", spans=True, units=unit)
+            self.assertEqual((found["spans"], text_of(found["text"])), ([wanted], line))
+        for unit, wanted in ("bytes", [10, 13]), ("utf-16", [7, 9]), ("characters", [6, 8]):
+            (_, found), = warm.find("xé", spans=True, units=unit)
+            self.assertEqual(found["spans"], [wanted])
+            (_, found), = warm.find("xé", column=True, units=unit)
+            self.assertEqual(found["column"], wanted[0] + 1)
+        # a part of a character is where it begins and ends
+        (_, found), = warm.find("a.", spans=True, units="utf-16")
+        self.assertEqual(found["spans"], [[0, 2]])
+
+    def test_names_and_texts_that_are_no_text(self) -> None:
+        self.write({b"caf\xe9.c": b"foo \xff\n"})
+        warm = self.warm()
+        (name, line), = warm.find("foo")
+        self.assertEqual((text_of(name), text_of(line["text"])), (b"caf\xe9.c", b"foo \xff"))
+        self.assertEqual(list(map(text_of, warm.ask("open", name=name)["lines"])), [b"foo \xff"])
+        warm.ask("overlay", name=name, text={"base64": base64.b64encode(b"bar \xfe\n").decode()})
+        (name, line), = warm.find("foo|bar")
+        self.assertEqual((text_of(name), text_of(line["text"])), (b"caf\xe9.c", b"bar \xfe"))
+        (name, line), = warm.find({"base64": base64.b64encode(b"\xfe$").decode()}, spans=True)
+        self.assertEqual(line["spans"], [[4, 5]])
+
+    def test_long_lines_are_cut(self) -> None:
+        self.write({b"a": b"x" * 5_000 + "é".encode() * 50 + b"needle" + b"y" * 5_000 + b"\n"})
+        (_, found), = self.warm().find("needle", spans=True, cut=100)
+        self.assertEqual(found["spans"], [[5_100, 5_106]])
+        self.assertEqual(found["of"], 10_106)
+        text, begin = found["text"].encode(), found["from"]
+        self.assertEqual(text[5_100 - begin : 5_106 - begin], b"needle")
+        self.assertLessEqual(len(text), 104)
+
+    def test_groups(self) -> None:
+        """Those of POSIX (XBD 9.1): each part from the left takes the most that it can."""
+        for pattern, line, wanted in (
+            ("a(b*)c", b"xabbc", [(1, 5), (2, 4)]),
+            ("(a|ab)(c|bcd)(d*)", b"abcd", [(0, 4), (0, 2), (2, 3), (3, 4)]),
+            ("(a*)(a*)", b"aaa", [(0, 3), (0, 3), (3, 3)]),
+            ("(foo|bar)+", b"foobar", [(0, 6), (3, 6)]),
+            ("(a)|(b)", b"b", [(0, 1), None, (0, 1)]),
+            (r"f\(([^,]*), (.*)\)$", b"f(x, g(y))", [(0, 10), (2, 3), (5, 9)]),
+            ("([[:alpha:]_]+)=([]0-9]+)", b"x_y=7]", [(0, 6), (0, 3), (4, 6)]),
+            ("(x{2,3}){2}", b"xxxxx", [(0, 5), (3, 5)]),
+            ("((a)|b)*", b"ab", [(0, 2), (1, 2), (0, 1)]),
+        ):
+            with self.subTest(pattern=pattern):
+                begin, end = wanted[0]
+                self.assertEqual(groups_of(pattern.encode(), False, line, begin, end), wanted)
+        self.assertEqual(groups_of(b"(A)b", True, b"ab", 0, 2), [(0, 2), (0, 1)])
+        self.assertIsNone(groups_of(b"(a|aa)*(a|aaa)*(a*)*b", False, b"a" * 3_000 + b"b", 0, 3_001))
+        self.write({b"a": "f(é, y)\nf(x, y) f(a, b)\n".encode()})
+        found = [line for _, line in self.warm().find(r"f\(([^,]*), ([a-z])\)", groups=True, units="characters")]
+        self.assertEqual(found[0]["groups"], [[0, 7], [2, 3], [5, 6]])
+        self.assertNotIn("groups", found[1])
+
+    def test_groups_as_python_has_them(self) -> None:
+        """Where a pattern can be taken apart in one way only, Python's `re` says the same."""
+        source = random.Random(13)
+        pieces = ["a", "b", "[ab]", "(a)", "(b|c)", "([a-c])", "c{2}", "(c?)d", "(b)e"]
+        seen = 0
+        for _ in range(400):
+            pattern = "".join(source.choices(pieces, k=source.randint(1, 6)))
+            line = "".join(source.choices("abcde", k=12))
+            found = re.search(pattern, line)
+            if found:
+                spans = [found.span(number) for number in range(found.re.groups + 1)]
+                self.assertEqual(groups_of(pattern.encode(), False, line.encode(), *found.span()), spans)
+                seen += 1
+        self.assertGreater(seen, 100)
+
+
+class Events(Place):
+    def test_changes_and_files_as_they_were(self) -> None:
+        self.write({b"a": b"one\ntwo\n", b"b": b"one\n"})
+        warm = self.warm()
+        warm.ask("follow")
+        last = warm.ask("find", pattern="one")
+        then = {"life": last["life"], "version": last["version"]}
+        self.assertEqual(warm.ask("open", name="a", **then)["lines"], ["one", "two"])
+        self.assertEqual(warm.ask("open", name="a", first=2, last=2)["lines"], ["two"])
+        (self.top / "a").write_bytes(b"three\n")
+        (self.top / "c").write_bytes(b"new\n")
+        (self.top / "b").unlink()
+        names: set[str] = set()
+        while names != {"a", "b", "c"}:
+            warm.take()
+            while warm.events:
+                event = warm.events.popleft()
+                if event["event"] == "changes":
+                    names |= set(event["names"])
+                    self.assertGreater(event["version"], then["version"])
+        self.assertEqual(warm.ask("open", name="a", **then)["lines"], ["one", "two"])
+        self.assertEqual(warm.ask("open", name="b", **then)["lines"], ["one"])
+        self.assertEqual(warm.ask("open", name="a")["lines"], ["three"])
+        for given in {"name": "b"}, {"name": "none"}, {"name": "a", "life": 9, "version": 1}:
+            with self.assertRaises(WarmRefused) as refused:
+                warm.ask("open", **given)
+            self.assertEqual(refused.exception.kind, "gone")
+
+    def test_status(self) -> None:
+        self.write({b"a": b"foo\n", b"b": b"\0"})
+        warm = self.warm()
+        warm.ask("overlay", name="x", text="y")
+        status = warm.ask("status")
+        self.assertEqual((status["documents"], status["bytes"], status["left_out"], status["overlays"]), (1, 4, {"binary": 1}, ["x"]))
+        self.assertEqual(status["root"], str(self.top))
+
+
+class Cancels(Place):
+    def test_cancels(self) -> None:
+        self.write(slow_documents(400))
+        warm = self.warm()
+        warm.ask("status")
+        first = warm.send("find", pattern=SLOW)
+        second = warm.send("find", pattern=SLOW)
+        third = warm.send("find", pattern="^end$")
+        self.assertEqual([document["name"] for part in warm.parts(third) for document in part.get("documents", [])], ["slow/end"])
+        for number in first, second:
+            with self.assertRaises(WarmRefused) as refused:
+                list(warm.parts(number))
+            self.assertEqual(refused.exception.kind, "cancelled")
+        # one beside it is not cancelled by the next, but by its number
+        beside = warm.send("find", pattern=SLOW, beside=True)
+        warm.ask("find", pattern="^end$")
+        warm.ask("cancel", of=beside)
+        with self.assertRaises(WarmRefused) as refused:
+            list(warm.parts(beside))
+        self.assertEqual(refused.exception.kind, "cancelled")
+
+
+    def test_who_leaves_gives_up(self) -> None:
+        self.write(slow_documents(400))
+        warm, other = self.warm(), self.warm()
+        other.ask("status")
+        warm.send("find", pattern=SLOW)
+        until(lambda: other.ask("status")["open"] == 1)
+        warm.close()
+        until(lambda: other.ask("status")["open"] == 0)
+
+
+class Faults(Place):
+    def test_bad_requests(self) -> None:
+        self.write({b"a": b"foo\n"})
+        warm = self.warm()
+        pattern = "x" * 2_000
+        for line, kind, where in (
+            (b"x", "request", {"offset": 0}),
+            (b'{"id": 1, "do": "find", }', "request", {"offset": 24}),
+            (b'{"id": 1, "do": "find", "pattern": "\xff"}', None, {}),
+            (b"[]", "request", {"offset": 0}),
+            (b"[" * 100_000, "request", {"offset": 0}),
+            (b'{"id": 1, "do": "fly"}', "request", {"in": "do"}),
+            (b'{"id": [], "do": "status"}', "request", {"in": "id"}),
+            (b'{"id": 1, "do": "cancel", "of": []}', "request", {"in": "of"}),
+            (b'{"id": 1, "do": "find"}', "request", {"in": "pattern"}),
+            (b'{"id": 1, "do": "find", "pattern": 5}', "request", {"in": "pattern"}),
+            (b'{"id": 1, "do": "find", "pattern": "\\ud800"}', "request", {"in": "pattern"}),
+            (b'{"id": 1, "do": "find", "pattern": "a", "limit": 0}', "request", {"in": "limit"}),
+            (b'{"id": 1, "do": "find", "pattern": "a", "limit": true}', "request", {"in": "limit"}),
+            (b'{"id": 1, "do": "find", "pattern": "a", "nonsense": 1}', "request", {"in": "nonsense"}),
+            (b'{"id": 1, "do": "find", "pattern": "a", "globs": ["!a", "b"]}', "request", {"in": "globs"}),
+            (b'{"id": 1, "do": "find", "pattern": "a", "types": ["none"]}', "request", {"in": "types"}),
+            (b'{"id": 1, "do": "find", "pattern": "a", "invert": true, "groups": true}', "request", {"in": "groups"}),
+            (b'{"id": 1, "do": "find", "pattern": "a(b"}', "pattern", {"in": "pattern", "offset": 1}),
+            (b'{"id": 1, "do": "find", "pattern": "a\\nb"}', "pattern", {"in": "pattern", "offset": 1}),
+            (b'{"id": 1, "do": "find", "pattern": "%s"}' % pattern.encode(), "pattern", {"in": "pattern", "offset": 1_024}),
+            (b'{"id": 1, "do": "find", "pattern": "a", "names": ["b", "(c"]}', "pattern", {"in": ["names", 1], "offset": 0}),
+            (b'{"id": 1, "do": "find", "pattern": "a", "globs": ["*.c"], "not_names": ["(c"]}', "pattern", {"in": ["not_names", 0], "offset": 0}),
+            (b'{"id": 1, "do": "find", "pattern": "a", "invert": true, "column": true}', "option", {}),
+            (b'{"id": 1, "do": "edit", "name": "a", "first": 3, "lines": []}', "overlay", {}),
+            (b'{"id": 1, "do": "edit", "name": "", "lines": []}', "overlay", {}),
+            (b'{"id": 1, "do": "edit", "name": "a", "lines": ["x\\ny"]}', "request", {"in": "lines"}),
+            (b'{"id": 1, "do": "overlay", "name": "a", "text": {"base64": "?"}}', "request", {"in": "text"}),
+        ):
+            with self.subTest(line=line[:80]):
+                warm._socket.sendall(line + b"\n")
+                answer = json.loads(warm._file.readline())
+                while "event" in answer:
+                    answer = json.loads(warm._file.readline())
+                error = answer.get("error", {})
+                self.assertEqual(error.get("kind"), kind, answer)
+                self.assertEqual({key: error.get(key) for key in where}, where)
+                self.assertTrue(kind is None or error["message"])
+        self.assertEqual(shown_by(warm, "foo")[0], 1)
+
+    def test_the_program_and_the_server_are_killed(self) -> None:
+        self.write({b"a": b"foo\n"})
+        warm = self.warm()
+        warm.ask("overlay", name="b", text="foo too\n")
+        self.assertEqual(shown_by(warm, "foo")[0], 2)
+        server = warm.ask("status")["process"]
+        for child in pathlib.Path(f"/proc/{server}/task/{server}/children").read_text(encoding="ascii").split():
+            os.kill(int(child), signal.SIGKILL)
+        self.assertEqual(shown_by(warm, "foo")[0], 2)
+        os.kill(server, signal.SIGKILL)
+        with self.assertRaises((Error, OSError)):
+            until(lambda: warm.ask("find", pattern="foo") is None)
+        self.assertEqual(shown_by(self.warm(), "foo")[0], 1)
+
+    def test_a_server_that_is_stopped_says_so(self) -> None:
+        self.write({b"a": b"foo\n"})
+        warm = self.warm()
+        warm.ask("status")
+        subprocess.run([*TGREP, "--stop"], cwd=self.top, check=True)
+        with self.assertRaises(Error), contextlib.suppress(IndexError):
+            while True:
+                warm.take()
+        self.assertEqual([event["event"] for event in warm.events][-1], "ending")
+        self.assertEqual(shown_by(self.warm(), "foo")[0], 1)
+
+    def test_who_is_told_nothing_holds_nobody_up(self) -> None:
+        """A client that reads nothing, and asks for much."""
+        self.write({b"%d" % number: b"foo foo foo\n" * 5_000 for number in range(20)})
+        other, warm = self.warm(), self.warm()
+        for _ in range(20):
+            other.send("find", pattern="foo", spans=True, beside=True)
+        self.assertEqual(shown_by(warm, "foo", limit=1)[:2], (1, True))
+
+
+@unittest.skipUnless(shutil.which("node"), "there is no command node")
+class Node(Place):
+    def test_the_client_for_node(self) -> None:
+        self.assertLessEqual(len(NODE.read_text(encoding="utf-8").splitlines()), 60)
+        self.write({b"a.c": "é foo(1)\n".encode(), b"b.c": b"bar\n"})
+        script = f"""
+const {{ Tgrep }} = require({json.dumps(str(NODE))});
+(async () => {{
+  const tgrep = await Tgrep.open({json.dumps(str(self.top))}, {json.dumps(str(TOP / "tgrep"))});
+  await tgrep.ask("overlay", {{ name: "b.c", text: "unsaved foo\\n" }});
+  const found = await tgrep.find("foo", {{ spans: true, units: "utf-16" }});
+  console.log(JSON.stringify([found.count, found.documents]));
+  await tgrep.find("fo(o").catch((fault) => console.log(fault.kind, fault.offset));
+  await tgrep.ask("follow");
+  tgrep.on("changes", (event) => {{ console.log(JSON.stringify(event.names)); tgrep.socket.end(); }});
+  require("node:fs").writeFileSync("c.c", "foo\\n");
+}})();
+"""
+        done = subprocess.run(["node", "-e", script], cwd=self.top, capture_output=True, check=False, timeout=60)
+        self.assertEqual(done.stderr, b"")
+        first, *rest = done.stdout.decode().splitlines()
+        documents = [{"name": "a.c", "lines": [{"line": 1, "text": "é foo(1)", "spans": [[2, 5]]}]}]
+        documents += [{"name": "b.c", "lines": [{"line": 1, "text": "unsaved foo", "spans": [[8, 11]]}]}]
+        self.assertEqual(json.loads(first), [2, documents])
+        self.assertEqual(rest, ["pattern 2", '["c.c"]'])
+
+
+class Sockets(Place):
+    def test_where_the_socket_is(self) -> None:
+        self.write({b"a": b"foo\n"})
+        done = subprocess.run([*TGREP, "--socket"], cwd=self.top, capture_output=True, check=True)
+        told = json.loads(done.stdout)
+        self.assertEqual(told["root"], str(self.top))
+        with socket.socket(socket.AF_UNIX) as connection:
+            connection.connect(told["socket"])
+            connection.sendall(b'{"id":"x","do":"find","pattern":"foo"}\n')
+            with connection.makefile("rb") as file:
+                found = [json.loads(file.readline()) for _ in range(2)]
+        self.assertEqual(found[0], {"id": "x", "documents": [{"name": "a", "lines": [{"line": 1, "text": "foo"}]}]})
+
+    def test_a_server_of_another_version_makes_room(self) -> None:
+        self.write({b"a": b"foo\n"})
+        warm = self.warm()
+        before = warm.ask("status")["process"]
+        with self.assertRaises(WarmRefused):
+            warm.ask("hello", token="another")
+        self.assertNotEqual(self.warm().ask("status")["process"], before)
+
+
+class Page(Place):
+    def test_the_example(self) -> None:
+        """What docs/SERVER.md shows: what is sent, and what is answered."""
+        page = (TOP / "docs/SERVER.md").read_text(encoding="utf-8")
+        self.write({b"a.c": b"int saved;\n"})
+        warm, seen = self.warm(), 0
+        for kind, text in re.findall(r"^    ([<>]) (.*)$", page, re.MULTILINE):
+            if kind == ">":
+                warm._socket.sendall(text.encode() + b"\n")
+                continue
+            answer = {"event": ""}
+            while "event" in answer:
+                answer = json.loads(warm._file.readline())
+            self.assertEqual(answer, json.loads(text))
+            seen += 1
+        self.assertEqual(seen, 5)
+
+
+if __name__ == "__main__":
+    unittest.main()
