@@ -55,6 +55,7 @@ def runs_over(small, large, more, headers):
         ("stack", []),
         ("levels", []),
         ("refused", [*trees, headers]),
+        ("missing", more),
     ]
 
 
@@ -81,6 +82,7 @@ SECTIONS = {
     "stack": "Stack",
     "levels": "Stack for a level",
     "refused": "Files with long lines",
+    "missing": "Lines that are missing",
 }
 SCRIPTS = list(dict.fromkeys(script for script, _ in runs_over("", "", [], "")))
 # These measure no program, or build one of their own.

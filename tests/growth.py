@@ -39,6 +39,7 @@ SCRIPT_BESIDE, SESSION_BESIDE = "script with two readers", "session with two rea
 # It has one reader, and this one takes one command and refuses more.
 SCRIPT_OF_ONE, SESSION_OF_ONE = "script with one reader", "session for one command"
 SESSION_OF_ONE_READER, SESSION_IN_TIME = "session with one reader", "session with a limit of time"
+SESSION_OF_LONG_LINES = "session with long lines"
 WORDS = {
     SCRIPT: ["--readers", "0", "--max-commands", "1000000"],
     SESSION: ["--live", "--readers", "0"],
@@ -47,6 +48,7 @@ WORDS = {
     SCRIPT_OF_ONE: ["--readers", "1"],
     SESSION_OF_ONE: ["--live", "--readers", "0", "--max-commands", "1"],
     SESSION_OF_ONE_READER: ["--live", "--readers", "1"],
+    SESSION_OF_LONG_LINES: ["--live", "--readers", "0", "--max-body", "67108864", "--max-line", "67108864"],
     SESSION_IN_TIME: ["--live", "--readers", "1", "--search-ms", "4294967295"],
 }
 BOTH = (SCRIPT, SESSION)
@@ -361,6 +363,13 @@ def length_of_a_searched_line(n):
     return after(put(b"a", b"x" * n) + b"publish\n", b"search x.*z\n" * 20)
 
 
+def length_of_a_long_line(n):
+    """Of lines that the matcher does not take: by the engine, by a simulation, and by one that is made for the line."""
+    patterns = b"x.*z|y", b"^x*y$", b"((a*b)*c)*d|y", b"y|$.[acegikmoqsuwyACEGIKMOQSUWY]{255}"
+    finds = b"".join(b"find %s -- %s\n" % (view, pattern) for view in (b"-c", b"-c -v", b"--column", b"--spans") for pattern in patterns)
+    return after(put(b"a", (b"x" * n + b"y\n") * 2) + b"publish\n", finds)
+
+
 def length_of_a_body_that_is_no_candidate(n):
     return after(put(b"a", b"some text\n" * n) + b"publish\n", b"search xyz\n" * 10)
 
@@ -588,6 +597,7 @@ GROWTHS = [
     Row(length_of_a_searched_body, 10_000, (SESSION,)),
     Row(lines_searched_one_by_one, 200, (SESSION,)),
     Row(length_of_a_searched_line, 1_500, (SESSION,)),
+    Row(length_of_a_long_line, 50_000, (SESSION_OF_LONG_LINES,)),
     Row(length_of_a_body_that_is_no_candidate, 10_000, (SESSION,), LEVEL, LEVEL),
     Row(hits, 10_000),
     Row(documents_with_hits, 500),
@@ -829,6 +839,18 @@ def lists_are_passed_in_blocks(runs):
 
 def candidates_with_two_common_trigrams(n):
     return after(published(n), b"search abcd.*uvwxyz\n" * 20)
+
+
+def documents_behind_a_limit(n):
+    """No trigram is asked for, so that no lists are gone through but that of all documents."""
+    return after(published(n), b"".join(b"find -m 1 %s -- b\n" % words for words in VIEWS))
+
+
+def candidates_behind_a_limit_are_not_taken(runs):
+    """A search with a limit takes the candidates with the first names. Each further one is only counted, and put into a table of numbers."""
+    few, many = (counts_of(runs, documents_behind_a_limit, count, SESSION) for count in (2_000, 10_000))
+    yield "instructions of seven searches with a limit for 8,000 more candidates", many[0] - few[0], 0, 7 * 8_000 * 200
+    yield "bytes in use at once for 8,000 more candidates of a search with a limit", many[3] - few[3], 0, 8_000 * 10
 
 
 def patterns_are_compiled_once(runs):
@@ -1202,6 +1224,7 @@ CHECKS = [
     answers_without_hits,
     room_for_candidates,
     lists_are_passed_in_blocks,
+    candidates_behind_a_limit_are_not_taken,
     patterns_are_compiled_once,
     lines_are_matched_once,
     simulations_are_made_once,

@@ -165,7 +165,9 @@ def judge(base, way, folder, result):
     status, stdout, stderr = result
     compare_end(base, status, stderr)
     words = words_of(base)
-    options = {"max_commands": int(words[words.index("--max-commands") + 1])} if "--max-commands" in words else {}
+    numbers = {word: int(words[words.index(word) + 1]) for word in ("--max-commands", "--max-name", "--max-body", "--max-line") if word in words}
+    options = {"max_commands": numbers["--max-commands"]} if "--max-commands" in numbers else {}
+    options["lengths"] = transcripts.Lengths(*(numbers.get(f"--max-{what}", usual) for what, usual in transcripts.USUAL._asdict().items()))
     wanted, files = read_bytes(base.with_suffix(".stdout")), transcripts.Files(folder)
     options.update(readers=int(way.readers or 2), stats="--stats" in words, timed="--search-ms" in words, files=files, known=wanted)
     fault = transcripts.fault_of(base.with_suffix(".script").read_bytes(), stdout, status, session=True, **options)

@@ -56,6 +56,10 @@ def random_body(chance, is_large):
 
 
 def random_tree(chance):
+    """A tree of a few files, or of so many that a search with a limit may take only some of them."""
+    if chance.randrange(4) == 0:
+        names = [b"%s%d" % (chance.choice(NAMES[:-1]), number) for number in range(chance.choice([64, 65, 80, 200]))]
+        return {name: random_body(chance, False) for name in chance.sample(names, len(names))}
     is_large = chance.randrange(2)
     return {name: random_body(chance, is_large) for name in chance.sample(NAMES, chance.choice([1, 2, 3, 5, 8, 12]))}
 

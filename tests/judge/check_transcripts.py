@@ -337,8 +337,15 @@ def texts_of_finds():
     return right, wrong
 
 
+# Names, bodies and lines at a limit and one byte over it.
+LONG = b"put abc 9\n1234\n5678\nput abcd 1\nx\nput d 10\n12\n45\n78\n9\nput e 5\n12345\nremove abcd\npublish\nsearch .\n"
+LENGTHS = transcripts.Lengths(3, 9, 4)
+LONG_REFUSED = [b"line 4 refused: name too long\n", b"line 6 refused: body too long\n", b"line 11 refused: line too long\n", b"line 13 refused: name too long\n"]
+LONG_FOUND = b"search 1 version 1 lines 2\nabc:1:1234\nabc:2:5678\n"
+
 # Scripts with their options, a text, and its status.
 LEGAL = [
+    (LONG, {"lengths": LENGTHS}, b"".join(LONG_REFUSED) + LONG_FOUND, 2),
     (REPLACEMENT, {}, OLD + OLD_AGAIN + NO_OLD + NEW, 0),
     (REPLACEMENT, {"readers": 0}, OLD + OLD_AGAIN + NO_OLD + NEW, 0),
     (REPLACEMENT, {"scarce": True}, OLD + b"search 2 refused: out of memory\n" + NO_OLD + NEW, 2),
@@ -428,6 +435,13 @@ WRONG = [
     # a good line, or a good pattern, is refused
     (REPLACEMENT, {}, OLD + b"line 6 refused: line too long\n" + OLD_AGAIN + NO_OLD + NEW, 2),
     (REPLACEMENT, {}, OLD + OLD_AGAIN + NO_OLD + b"search 4 refused: bad escape at 0\n", 2),
+    # the usual limits in place of those that are given, and limits that are off by one
+    (LONG, {}, b"".join(LONG_REFUSED) + LONG_FOUND, 2),
+    (LONG, {"lengths": LENGTHS._replace(name=4)}, b"".join(LONG_REFUSED) + LONG_FOUND, 2),
+    (LONG, {"lengths": LENGTHS._replace(body=10)}, b"".join(LONG_REFUSED) + LONG_FOUND, 2),
+    (LONG, {"lengths": LENGTHS._replace(body=8)}, b"".join(LONG_REFUSED) + LONG_FOUND, 2),
+    (LONG, {"lengths": LENGTHS._replace(line=5)}, b"".join(LONG_REFUSED) + LONG_FOUND, 2),
+    (LONG, {"lengths": LENGTHS._replace(line=3)}, b"".join(LONG_REFUSED) + LONG_FOUND, 2),
     # the counts of documents
     (REPLACEMENT, {"stats": True}, OLD + OLD_AGAIN + NO_OLD + NEW, 0),
     # another status

@@ -18,7 +18,9 @@ import re
 from built import TOP
 from judge import searches
 
-MAX_BODY, MAX_LINE = 1_048_576, 16_384
+# How long names, bodies and lines may be, and what this is if nothing is asked for.
+Lengths = collections.namedtuple("Lengths", "name body line")
+USUAL = Lengths(255, 1_048_576, 16_384)
 # While so many searches are open, no item is taken.
 MOST_OPEN = 1_024
 
@@ -155,25 +157,25 @@ def is_hit(entry):
     return entry.version is not None and int(HEAD.match(entry.text)[3]) > 0
 
 
-def fault_of_name(name):
-    if not 1 <= len(name) <= 255:
+def fault_of_name(name, most):
+    if not 1 <= len(name) <= most:
         return "name too long" if name else "name empty"
     return None if all(33 <= byte <= 126 or byte >= 128 for byte in name) else "bad byte in name"
 
 
-def fault_of_body(body):
-    if len(body) > MAX_BODY:
+def fault_of_body(body, lengths):
+    if len(body) > lengths.body:
         return "body too long"
     if 0 in body:
         return "byte 0 in body"
-    return "line too long" if any(len(line) > MAX_LINE for line in body.split(b"\n")) else None
+    return "line too long" if any(len(line) > lengths.line for line in body.split(b"\n")) else None
 
 
 class Run:
     """What is known of a run at one of its items: what is accepted so far, and which versions were published and where."""
 
-    def __init__(self, files, max_commands, scarce, timed):
-        self.files, self.max_commands, self.scarce, self.timed = files, max_commands, scarce, timed
+    def __init__(self, files, max_commands, scarce, timed, lengths):
+        self.files, self.max_commands, self.scarce, self.timed, self.lengths = files, max_commands, scarce, timed, lengths
         self.states = [{}]  # the documents after each number of accepted commands
         self.published = []  # pairs of a place among the items and a version
         self.answers = {}  # what searches find, by their lines and versions
@@ -185,13 +187,13 @@ class Run:
             return [words.get("reason")]
         if kind == "cancel":
             return [None if words["is_asked"] else "no such search"]
-        fault = None if kind == "publish" else fault_of_name(words["name"])
+        fault = None if kind == "publish" else fault_of_name(words["name"], self.lengths.name)
         scarce = ["out of memory"] if self.scarce and not fault else []
         if kind == "load":
             fault = fault or (None if words["path"] in self.files else "cannot load")
             words["body"] = self.files.get(words["path"])
         if kind in ("put", "load"):
-            fault = fault or fault_of_body(words["body"])
+            fault = fault or fault_of_body(words["body"], self.lengths)
         if kind == "remove" and not fault and words["name"] not in now:
             fault = "no such file"
         if kind != "publish" and not fault and len(self.states) > self.max_commands:
@@ -313,14 +315,14 @@ def pair(items, text):
     return entries
 
 
-def check(script, text, readers=2, max_commands=1_000_000, stats=False, files=None, table=None, scarce=False, known=None, timed=False):
+def check(script, text, readers=2, max_commands=1_000_000, stats=False, files=None, table=None, scarce=False, known=None, timed=False, lengths=USUAL):
     """Returns the status with which the run must end if the text is legal, and raises Illegal if it is not. `files` are the
     bytes by their paths, `table` patterns that take too long here, each with another that finds the same lines.
     Where memory is scarce, it may be refused to any item, and any reader may answer a search. `known` is a text whose entries the
     searches must have. `timed` is whether searches have a limit of time."""
     items = items_with_entries(script, known, table or {})[0]
     entries = pair(items, text)
-    run, statuses = Run(files or {}, max_commands, scarce, timed), []
+    run, statuses = Run(files or {}, max_commands, scarce, timed, lengths), []
     for place, (item, entry) in enumerate(zip(items, entries)):
         if item.is_search():
             continue
@@ -523,12 +525,12 @@ class Steps:
             self.refuse(place, reason)
 
 
-def check_session(script, text, readers=2, max_commands=1_000_000, stats=False, files=None, table=None, scarce=False, known=None, timed=False, whole=True):
+def check_session(script, text, readers=2, max_commands=1_000_000, stats=False, files=None, table=None, scarce=False, known=None, timed=False, lengths=USUAL, whole=True):
     """As `check`, for a session: each answer is written as soon as it is there, and only the other entries keep the order of
     their items. An answer has a version that is published by then. If the text is not whole, since the session ended early, searches
     may still be open and items left."""
     items, places = items_with_entries(script, known, table or {})
-    steps, refused, hit = Steps(items, Run(files or {}, max_commands, scarce, timed), readers), False, False
+    steps, refused, hit = Steps(items, Run(files or {}, max_commands, scarce, timed, lengths), readers), False, False
     for entry in entries_of(text, items):
         place = places.get(entry[:2])
         if place is None:

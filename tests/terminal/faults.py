@@ -6,6 +6,7 @@ import fcntl
 import json
 import os
 import pathlib
+import re
 import shutil
 import signal
 
@@ -486,7 +487,8 @@ def a_slow_reader_takes_no_memory(place):
 
 def names_with_control_bytes(place):
     """They do not reach a terminal in messages."""
-    place.write("a\x1b[31mb\nc", b"x" * 20_000 + b"\nfoo\n")
+    place.write("a\x1b[31mb\nc", b"")
+    os.truncate(place.top / "a\x1b[31mb\nc", (64 << 20) + 1)
     for words in ["foo"], ["foo", "a\x1b[31mb\nc"], ["foo", "a\x1b"], ["foo", "--a\x1b"]:
         _, _, said = place.call(*words)
         if b"\x1b" in said or said.count(b"\n") != 1 or b"^[" not in said:
@@ -565,53 +567,45 @@ def nobody_reads_on(place):
 
 def files_that_cannot_be_searched(place):
     """They are named, and a search that finds nothing is not sure."""
-    place.write("wide", b"x" * 20_000 + b"\n")
+    place.write("wide", b"x" * 2_000_000 + b"foo\n")
     place.write("bin", b"foo\0\n")
     place.write("a", b"foo\n")
-    place.wants(["foo"], 0, b"a:1:foo\n", b"wide: line too long")
+    place.wants(["-c", "foo"], 0, b"a:1\nwide:1\n", b"")
+    place.write("large", b"some text\n" * (7 << 20) + b"foo\n")
     # again at each call: another terminal may not have seen it
-    place.wants(["foo"], 0, b"a:1:foo\n", b"wide: line too long")
-    place.wants(["-q", "bar"], 2, b"", b"wide: line too long")
+    for _ in range(2):
+        place.wants(["-c", "foo"], 0, b"a:1\nwide:1\n", b"large: over 64 MiB")
+    place.wants(["-q", "bar"], 2, b"", b"large: over 64 MiB")
     if place.call("-q", "foo") != (0, b"", b""):
         raise Wrong("what is sure has a message")
     place.wants(["foo", "a"], 0, b"1:foo\n", b"")
-    place.wants(["bar"], 2, b"", b"wide: line too long")
-    place.wants(["-s", "bar", "-g", "!wide"], 1, b"")
-    place.wants(["-a", "foo"], 0, b"a:1:foo\n", b"bin: binary")
+    place.wants(["bar"], 2, b"", b"large: over 64 MiB")
+    place.wants(["-s", "bar", "-g", "!large"], 1, b"")
+    place.wants(["-a", "-c", "foo"], 0, b"a:1\nwide:1\n", b"bin: binary")
     place.wants(["foo", "bin"], 2, b"", b"bin: binary")
-    place.wants(["-L", "foo"], 2, b"", b"wide: line too long")
-    place.wants(["-L", "foo", "wide"], 2, b"", b"wide: line 1 too long")
-    place.write("wide", b"foo\n" + b"x" * 20_000 + b"\nfoo\n")
-    place.wants(["foo", "wide", "a"], 0, b"wide:1:foo\nwide:3:foo\na:1:foo\n", b"wide: line 2 too long")
-    place.write("other", b"x" * 20_000)
-    place.wants(["foo"], 0, b"a:1:foo\n", b"2 files are not searched: 2 line too long")
-    place.write("wide", b"narrow\n")
-    place.wants(["narrow"], 0, b"wide:1:narrow\n")
+    place.wants(["-L", "foo"], 2, b"", b"large: over 64 MiB")
+    # one that is typed is searched, block by block
+    place.wants(["foo", "large"], 0, b"%d:foo\n" % ((7 << 20) + 1), b"")
+    place.wants(["-c", "-v", "t$", "a", "large"], 0, b"a:1\nlarge:1\n", b"")
+    os.truncate(place.top / "large", 1_000)
+    place.wants(["-c", "text|foo"], 0, b"a:1\nlarge:100\nwide:1\n", b"")
 
 
-def files_that_are_too_long_for_a_tree(place):
-    """They are searched all the same, block by block, as grep does."""
-    place.write("a", b"foo\n")
-    place.write("big", b"".join(b"%d\n" % number for number in range(300_000)))
-    place.write("s/" + "%" * 90, b"foo 7\n")
-    place.write("big.bin", bytes(2_000_000))
-    place.write("end", b"x\n" * 600_000 + b"foo")
-    grep = ["grep", "-rnIE", "--exclude=big.bin"]
-    for words in (
-        ["foo"], ["-c", "foo"], ["-l", "7$"], ["-L", "foo"], ["-c", "-v", "7"], ["-c", "7", "big"], ["-h", "99999$", "big"], ["-C3", "0000$"],
-        ["-A2", "-B1", "-m2", "99$"], ["-o", "-m3", "7.7"], ["-m2", "foo"], ["-q", "999999"], ["-C2", "^(104|105)..$", "big"], ["-x", "foo", "end"],
-    ):
-        wanted = run([*grep[1:], *words], place.top, place.environment, command="grep")
-        wanted = wanted[0], sorted(line for line in wanted[1].split(b"\n") if not line.endswith(b":0"))
-        for more in [], ["--no-server"]:
-            status, shown, said = place.call(*more, *words)
-            if (status, sorted(shown.split(b"\n")), said) != (*wanted, b""):
-                raise Wrong(f"{more} {words}: {status} {shown[:200]} {said}, and grep: {wanted[0]} {wanted[1][:9]}")
-    _, shown, _ = place.call("--json", "^29999", "big")
-    offsets = [json.loads(line)["data"].get("absolute_offset") for line in shown.splitlines()[1:-2]]
-    wanted = run(["-b", "^29999", "big"], place.top, place.environment, command="grep")[1]
-    if offsets != [int(line.split(b":")[0]) for line in wanted.splitlines()]:
-        raise Wrong(f"{offsets}, and grep: {wanted}")
+def long_lines(place):
+    """They are whole, unless a form is asked for in which they are not."""
+    line = b"x" * 5_000 + b" foo " + b"y" * 5_000 + b"foo" + b"z" * 5_000
+    place.write("a", line + b"\n")
+    place.wants(["foo"], 0, b"a:1:" + line + b"\n")
+    place.wants(["-M", "100", "foo"], 0, b"a:1:[Omitted long matching line]\n")
+    status, shown, _ = place.call("-M", "400", "--max-columns-preview", "foo")
+    gap = rb" \[\.\.\. [\d,]+ bytes \.\.\.\] "
+    if status or not re.fullmatch(b"a:1:%sx{99,100} foo y{95,99}%sy{99,100}fooz{99,100}%s\n" % (gap, gap, gap), shown):
+        raise Wrong(str(shown))
+    # what would be written over and over again
+    place.write("a", b"foo " * 5_000 + b"\n")
+    status, shown, _ = place.call("--vimgrep", "foo")
+    if (status, shown.count(b"\n"), len(shown) < 3_000_000) != (0, 5_000, True) or not shown.startswith(b"a:1:1:foo foo"):
+        raise Wrong(f"{status} {len(shown)} {shown[:200]}")
 
 
 def standard_input_is_searched_as_it_comes(place):
@@ -799,7 +793,7 @@ TESTS = [
     closed_streams,
     nobody_reads_on,
     files_that_cannot_be_searched,
-    files_that_are_too_long_for_a_tree,
+    long_lines,
     standard_input_is_searched_as_it_comes,
     without_a_server,
     trees_beside_each_other,

@@ -3,6 +3,7 @@
 import contextlib
 import os
 import re
+import shlex
 import shutil
 import subprocess
 import tempfile
@@ -82,6 +83,16 @@ def progress_that_goes_away(place, screen):
         raise Wrong(screen.shown())
 
 
+def long_lines_do_not_flood(place, screen):
+    """They are shown around their matches."""
+    place.write("a", b"x" * 100_000 + b" foo " + b"y" * 100_000 + b"\nfoo\n")
+    for words in ["foo"], ["--color=never", "foo"], ["-A1", "foo"], ["-o", ".*oo.*"]:
+        if screen.run(*map(shlex.quote, words)) != 0 or not re.search(r"\[\.\.\. [\d,]+ bytes \.\.\.\]", screen.shown().replace("\n", "")):
+            raise Wrong(screen.shown())
+    if screen.run("-M0", "-c", "foo") != 0 or "a:2" not in screen.shown():
+        raise Wrong(screen.shown())
+
+
 def ctrl_c_ends_a_search(place, screen):
     """At once, with the status of that signal, and the server goes on."""
     place.write("a", (b"a" * 16_000 + b"\n") * 60)
@@ -109,7 +120,13 @@ def a_folder_that_is_not_watched_is_named_once(place, screen):
         raise Wrong(screen.shown())
 
 
-TESTS = [colours_and_control_bytes, progress_that_goes_away, ctrl_c_ends_a_search, a_folder_that_is_not_watched_is_named_once]
+TESTS = [
+    colours_and_control_bytes,
+    progress_that_goes_away,
+    long_lines_do_not_flood,
+    ctrl_c_ends_a_search,
+    a_folder_that_is_not_watched_is_named_once,
+]
 
 
 def check(program):

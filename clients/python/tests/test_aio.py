@@ -155,7 +155,7 @@ class Sessions(unittest.IsolatedAsyncioTestCase):
         self.assertEqual(await session.close(), -signal.SIGKILL)
 
     async def test_a_program_that_takes_nothing(self) -> None:
-        async with aio.Session.started() as session:
+        async with aio.Session.started(max_line=None) as session:
             await session.status()
             stop(session.pid)
             sent = 0

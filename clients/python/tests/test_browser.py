@@ -207,7 +207,13 @@ class Page(unittest.TestCase):
         self.one("#pattern").clear()
         self.type("needle")
         self.assertEqual(self.marks(), ["needle"])
-        self.assertLess(len(self.shown()[0][2]), 500)
+        self.assertRegex(self.shown()[0][2], r"^ \[\.\.\. [\d,]+ bytes \.\.\.\] .{50,200}needle.{50,200} \[\.\.\. [\d,]+ bytes \.\.\.\] $")
+        self.all("#results .row")[0].click()
+        self.wait(lambda: self.all("#file-lines button"))
+        self.assertEqual([mark.text for mark in self.all("#file-lines mark")], ["needle"])
+        self.one("#file-lines button").click()
+        self.wait(lambda: not self.all("#file-lines button"))
+        self.assertGreater(len(self.one("#file-lines .text").text), 5_000)
 
     def test_hostile_names_and_bodies(self) -> None:
         self.type("hostile")

@@ -64,7 +64,7 @@ class Sending(unittest.TestCase):
             with self.assertRaises(PatternRefused) as raised:
                 core.find(query)
             self.assertEqual((raised.exception.number, raised.exception.offset), (number, 1))
-        for name, reason in (b"", "name empty"), (b"n" * 256, "name too long"), (b" " * 86, "name too long"):
+        for name, reason in (b"", "name empty"), (b"n" * 4_097, "name too long"), (b" " * 1_366, "name too long"):
             for call in (lambda: core.put(name, b""), lambda: core.remove(name), lambda: core.load(name, b"x")):
                 with self.assertRaises(ChangeRefused) as raised:
                     call()

@@ -18,6 +18,7 @@ from helpers import SECONDS, hits_of, plain, stopped, until
 
 import tsearch
 from tsearch import aio
+from tsearch.folder import Files
 from tsearch.watching import hints
 
 
@@ -57,12 +58,13 @@ class Folders(unittest.TestCase):
 
     def test_what_is_left_out_is_named_once(self) -> None:
         self.write("binary", b"x\0y\n")
-        self.write("long", b"x\n" * 600_000)
-        self.write("wide", b"x" * 16_385)
-        self.write("just", b"x" * 16_384 + b"\n" + b"x" * 16_384)
-        self.write("n" * 200 + " " * 50, b"x\n")
+        self.write("long", b"")
+        os.truncate(self.top / "long", 67_108_865)
+        self.write("just", b"x" * 2_000_000 + b"\n" + b"x" * 2_000_000)
+        name = "/".join([" " * 200] * 7)
+        self.write(name, b"x\n")
         folder = tsearch.Folder(self.session, self.top)
-        wanted = {b"binary": "binary", b"long": "body too long", b"wide": "line too long", b"n" * 200 + b" " * 50: "name too long"}
+        wanted = {b"binary": "binary", b"long": "body too long", name.encode(): "name too long"}
         self.assertEqual(dict(folder.refresh().left_out), wanted)
         self.assertEqual(self.names(), {b"just"})
         self.assertEqual(folder.refresh().left_out, [])
@@ -241,6 +243,19 @@ class Folders(unittest.TestCase):
                 folder = tsearch.Folder(session, self.top, loads=loads)
                 self.assertEqual(folder.refresh().left_out, [(b"f", "binary")])
                 self.assertEqual(list(session.find("").texts()), wanted)
+
+    def test_large_binary_files_are_not_read(self) -> None:
+        """But for how they begin, neither to be left out nor to tell how much text there is."""
+        self.write("video", b"\0" * 100)
+        os.truncate(self.top / "video", 60_000_000)
+        self.write("text", b"x\n" * 1_000_000)
+        self.write("late", b"x\n" * 10_000 + b"\0")
+        files = Files(self.top)
+        read, sizes = os.read, []
+        with unittest.mock.patch("tsearch.folder.os.read", lambda *words: sizes.append(words[1]) or read(*words)):
+            self.assertEqual([step.name for step in files.steps()], [b"text"])
+        self.assertEqual((files.text_bytes, set(sizes)), (2_020_001, {8_192}))
+        self.assertEqual(files.left_out, {b"late": "binary", b"video": "binary"})
 
     def test_what_is_new_and_refused_is_not_removed(self) -> None:
         """There is nothing to remove, so there is no second publish."""

@@ -214,7 +214,7 @@ class Refusals(unittest.TestCase):
             self.assertEqual(plain(session.find("-- remove", literal=True)), [(b"a", 1, b"a -- remove a")])
 
     def test_of_changes(self) -> None:
-        with tsearch.Session(max_commands=3) as session:
+        with tsearch.Session(max_commands=3, max_line=None) as session:
             changes = [session.put("a", "x"), session.put("b", b"\0"), session.put("c", "y" * 16_385), session.remove("d")]
             session.status(SECONDS)
             published = session.publish()
@@ -232,6 +232,30 @@ class Refusals(unittest.TestCase):
             # a new program takes them all, and the old one answers until then
             session.restart(lambda new: [new.put(name, "z") for name in "abc"], only_if_ended=False)
             self.assertEqual((session.life, len(session.find("z")), session.find("z").life), (2, 3, 2))
+
+    def test_lengths(self) -> None:
+        """A session takes what is as long as it can be, and is told what is the most."""
+        name = b"n" * 4_096
+        with tsearch.Session() as session:
+            session.put(name, b"x" * 1_000_000 + b"foo" + b"x" * 1_000_000)
+            session.put("long", b"x" * 67_108_865)
+            self.assertEqual([(one.name, one.reason) for one in session.publish().refused], [(b"long", "body too long")])
+            self.assertEqual([(hit.name, hit.spans) for hit in session.find("foo", spans=True)], [(name, ((1_000_000, 1_000_003),))])
+        with tsearch.Session(max_body=10, max_line=5, max_name=3) as session:
+            for number, body in enumerate((b"x" * 5, b"x" * 6, b"x\n" * 5, b"x\n" * 6)):
+                session.put(f"{number}", body)
+            session.put("name", b"x")
+            wanted = [(b"1", "line too long"), (b"3", "body too long"), (b"name", "name too long")]
+            self.assertEqual([(one.name, one.reason) for one in session.publish().refused], wanted)
+
+    def test_an_answer_that_is_too_long(self) -> None:
+        with tsearch.Session(max_answer=1_000) as session:
+            session.put("a", "foo\n" * 50_000 + "bar")
+            session.publish()
+            for _ in range(2):
+                with self.assertRaises(tsearch.SearchRefused) as raised:
+                    session.find("foo")
+                self.assertEqual((raised.exception.reason, len(session.find("bar"))), ("answer too long", 1))
 
     def test_of_more_changes_than_pipes_hold(self) -> None:
         """Their texts fill the pipe of the output while changes are sent. The session reads meanwhile, so neither side waits for ever."""

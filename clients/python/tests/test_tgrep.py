@@ -16,9 +16,10 @@ import unittest.mock
 
 from helpers import SECONDS, TOP
 from tsearch import aio
-from tsearch.answers import View
+from tsearch.answers import Hit, View
 from tsearch.ignored import Rules
 from tsearch.query import Query
+from tsearch.shortening import shortened
 from tsearch.tgrep import arguments, asking, ere, places, tree, watched
 from tsearch.tgrep.asking import Piece
 from tsearch.tgrep.forms import Around, Empty, Passing, Reading, Row
@@ -114,6 +115,38 @@ class EmptyMatches(unittest.TestCase):
         self.assertEqual(Empty(Query(b"a*", whole_lines=True)).matches(b"", ()), ((0, 0),))
         self.assertEqual(Empty(Query(b"a*", literal=True)).matches(b"x", ()), ())
         self.assertEqual(Empty(Query(b"", literal=True)).matches(b"x", (), has_end=False), ((0, 0),))
+
+
+class LongLines(unittest.TestCase):
+    GAP = re.compile(rb" \[\.\.\. ([\d,]+) bytes(?: with ([\d,]+) match(?:es)?)? \.\.\.\] ")
+
+    def test_what_is_shown(self) -> None:
+        """What is shown and what a mark says is left out are the whole line, with each match or its number."""
+        source = random.Random(7)
+
+        def number(digits: bytes) -> int:
+            return int(digits.replace(b",", b"") or 0)
+
+        for _ in range(300):
+            text = b"".join(source.choices(["ü".encode(), b"a", "\U0001f600".encode(), b"foo"], k=source.choice([10, 200, 900, 5_000])))
+            spans = [match.span() for match in re.finditer(rb"foo" if source.random() < 0.5 else rb"(foo){2,}", text)]
+            spans = spans[:: source.choice([1, 7, 50])]
+            parts = shortened(text, spans)
+            self.assertEqual(len(parts) % 2, 1)
+            gaps = [found for part in parts for found in self.GAP.findall(part)]
+            shown = [self.GAP.sub(b"", part) for part in parts]
+            self.assertEqual(sum(map(len, shown)) + sum(number(length) for length, _ in gaps), len(text))
+            self.assertEqual(len(parts) // 2 + sum(number(count) for _, count in gaps), len(spans))
+            self.assertEqual(shown[1::2], [text[begin:end] for begin, end in spans[: len(parts) // 2]])
+            self.assertLess(sum(map(len, shown)), 2_000)
+            b"".join(shown).decode()
+            if len(text) <= 1_000:
+                self.assertEqual((parts, gaps), (Hit(b"", 1, text, None, tuple(spans)).parts(), []))
+
+    def test_a_long_match(self) -> None:
+        (before, match, after) = shortened(b"x" * 10 + b"a" * 9_000 + b"y", [(10, 9_010)])
+        self.assertEqual((before, after), (b"x" * 10, b"y"))
+        self.assertEqual(match, b"a" * 100 + b" [... 8,800 bytes ...] " + b"a" * 100)
 
 
 @unittest.skipUnless(shutil.which("rg"), "there is no command rg")

@@ -117,16 +117,39 @@ class Web(unittest.TestCase):
         self.assertEqual(self.server.get("/api/status", {"Host": "127.0.0.1@attacker.example:80"})[0], 403)
         self.assertEqual(self.server.get("/api/status", {"Host": "localhost:80"})[0], 200)
 
+    def test_long_lines(self) -> None:
+        """They are cut around their matches, unless they are asked for whole."""
+        whole, body = (["x" * 8_000 + " ", "needle", " " + "y" * 8_000], "x" * 8_000 + " needle " + "y" * 8_000)
+        rows = self.server.find("needle", name="wide")
+        ((hit,), head) = rows[1]["hits"], rows[0]
+        self.assertEqual((hit["cut"], hit["parts"][1]), (True, "needle"))
+        self.assertLess(sum(map(len, hit["parts"])), 400)
+        self.assertEqual(self.server.find("needle", name="wide", whole=1)[1]["hits"], [{"line": 1, "parts": whole}])
+        words = f"repository={head['repository']}&name={rows[1]['id']}&life={head['life']}&version={head['version']}"
+        told = [json.loads(self.server.get(f"/api/file?{words}{more}")[1]) for more in ("", "&whole=1")]
+        self.assertEqual((told[0]["cut"], "cut" in told[1], told[1]["lines"]), (True, False, [body]))
+        self.assertLess(len(told[0]["lines"][0]), 400)
+
+    def test_marks_of_longer_lines_than_marks_may_be(self) -> None:
+        """What the lines have does not count."""
+        from tsearch.answers import Answer, View
+        from tsearch.web.server import _documents
+
+        text = b"x" * 2_000_000 + b"foo"
+        answer = Answer(1, 1, 1, False, View.CONTEXT, b"a\0001:" + text + b"\n", spans_data=b"a\0001:2000001-2000003:" + text + b"\n")
+        (hit,) = next(_documents(answer, False))["hits"]
+        self.assertEqual((hit["parts"][1], hit["cut"]), ("foo", True))
+
     def test_many_marks(self) -> None:
         """Answers whose marks would be too many are shown without."""
-        rows = self.server.find("[xy]|many", max=1, name="wide")
+        rows = self.server.find("[xy]|many", max=1, name="wide", whole=1)
         self.assertEqual(len(rows[1]["hits"][0]["parts"]), 32_001)
         with unittest.mock.patch("tsearch.web.server._MOST_SPANS", 100):
             from tsearch.answers import Answer, View
             from tsearch.web.server import _documents
 
             answer = Answer(1, 1, 1, False, View.CONTEXT, b"a\0001:xx\n", spans_data=b"a\0001:" + b"1-1," * 40 + b"1-1:xx\n")
-            self.assertEqual(next(_documents(answer))["hits"], [{"line": 1, "parts": ["xx"]}])
+            self.assertEqual(next(_documents(answer, False))["hits"], [{"line": 1, "parts": ["xx"]}])
 
     def test_a_slow_search_does_not_hold_up_others(self) -> None:
         with concurrent.futures.ThreadPoolExecutor(8) as pool:

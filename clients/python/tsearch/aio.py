@@ -14,7 +14,7 @@ from .answers import Answer, Published, Status, joined
 from .core import Core, Sent, SentSearch, ended_by, ended_with, status_of, value_of
 from .errors import Ended, Error
 from .folder import BATCH, Files, Progress, Refreshed, Step
-from .program import MOST_COMMANDS, TO_END, command, kill_group
+from .program import MOST_BODY, MOST_COMMANDS, MOST_NAME, TO_END, command, kill_group
 from .query import Options, Query
 from .session import MOST_OPEN, MOST_TRIES
 
@@ -60,8 +60,9 @@ class _Connection:
         life: int,
         most_open: int,
         messages: Callable[[bytes], None] | None,
+        max_answer: int | None = None,
     ) -> None:
-        self.core = Core(life)
+        self.core = Core(life, max_answer)
         self.life = life
         self.process = process
         self.ended: Callable[[], Error] | None = None
@@ -303,6 +304,10 @@ class Session(Changes):
         readers: int | None = None,
         search_ms: int | None = None,
         max_commands: int | None = MOST_COMMANDS,
+        max_body: int | None = MOST_BODY,
+        max_line: int | None = MOST_BODY,
+        max_name: int | None = MOST_NAME,
+        max_answer: int | None = None,
         stats: bool = False,
         messages: Callable[[bytes], None] | None = None,
         most_open: int = MOST_OPEN,
@@ -310,14 +315,17 @@ class Session(Changes):
         """Starts a program. `close` ends it. The arguments are those of `tsearch.Session`."""
         if not 1 <= most_open <= 1_000:
             raise ValueError("most_open is 1 to 1,000")
-        words = command(program, readers=readers, search_ms=search_ms, max_commands=max_commands, stats=stats)
+        words = command(
+            program, readers=readers, search_ms=search_ms, max_commands=max_commands,
+            max_body=max_body, max_line=max_line, max_name=max_name, stats=stats,
+        )  # fmt: skip
         pipe = subprocess.PIPE
 
         async def start(life: int) -> _Connection:
             # Ctrl-C at a terminal is for the client, which then ends the session.
             process = await asyncio.create_subprocess_exec(*words, stdin=pipe, stdout=pipe, stderr=pipe, start_new_session=True)
             assert process.stdin is not None and process.stdout is not None
-            return _Connection(process.stdout, process.stdin, process, life, most_open, messages)
+            return _Connection(process.stdout, process.stdin, process, life, most_open, messages, max_answer)
 
         return cls(await start(1), start)
 

@@ -86,13 +86,15 @@ class _Coming:
     answer: Callable[[bytes], Answer]
     left: int
     parts: list[bytes]
+    size: int = 0
 
 
 class Core:
     """A session's state, as its client knows it."""
 
-    def __init__(self, life: int = 1) -> None:
+    def __init__(self, life: int = 1, max_answer: int | None = None) -> None:
         self._life = life
+        self._max_answer = max_answer
         self._next_line = 1
         self._searches = 0
         self._open: dict[int, SentSearch] = {}
@@ -269,12 +271,24 @@ class Core:
         end = len(data) if count < coming.left else after_line(data, at, coming.left)
         if coming.search.is_wanted:
             try:
-                (coming.search.take or coming.parts.append)(data[at:end])
+                (coming.search.take or self._keeper_of(coming))(data[at:end])
             except Exception as error:  # it is for who made the search, and others go on
                 coming.search.is_wanted, coming.search.fault = False, error
+                coming.parts.clear()
         coming.left -= min(count, coming.left)
         self._end_answer(coming)
         return end
+
+    def _keeper_of(self, coming: _Coming) -> Callable[[bytes], object]:
+        """What keeps the rows of an answer, up to so many bytes."""
+
+        def keep(rows: bytes) -> None:
+            coming.size += len(rows)
+            if self._max_answer is not None and coming.size > self._max_answer:
+                raise SearchRefused("answer too long")
+            coming.parts.append(rows)
+
+        return keep
 
     def _end_answer(self, coming: _Coming) -> None:
         if coming.left:

@@ -15,19 +15,19 @@ from . import names
 from .answers import Answer, Published
 from .errors import ChangeRefused
 from .listing import File, Lister, Listing, Stamp
+from .program import MOST_BODY, MOST_NAME
 from .query import Options
 from .session import Changes, Session
 
-# The limits of a document, in bytes (docs/SCRIPT.md, "The limits").
-MAX_BODY = 1_048_576
-MAX_LINE = 16_384
 # What the program calls a file that can be no document, and what this package does.
 _CALLED = {"byte 0 in body": "binary", "cannot load": "cannot be read"}
 # In nanoseconds. A file that changes twice within a tick of the clock of its times may have the same ones both times.
 _TICK = 100_000_000
 # What a file can begin with that says how it is to be read.
 _MARKS = {codecs.BOM_UTF8: "", codecs.BOM_UTF16_LE: "utf-16-le", codecs.BOM_UTF16_BE: "utf-16-be"}
-_LONGEST_MARK = max(map(len, _MARKS))
+# In bytes: by so many it is told whether a file is binary, before all of it is read; and a small one is taken for text without that.
+_HEAD = 8_192
+_SMALL = 1 << 20
 # So many changed files and more the program loads itself.
 _LEAST_LOADED = 256
 # So many files are sent, and then so many more before it is known that the program has read the first ones.
@@ -84,8 +84,8 @@ class Files:
         self.prefix = names.to_bytes(prefix)
         self._lister = Lister(self.root, git is not False, follows, is_apart)
         self._loads = loads
-        # how many bytes the files have that were listed last and may be documents
-        self.listed_bytes = 0
+        # how many bytes of text the files had at a first look, as far as the beginnings of the large ones tell
+        self.text_bytes = 0
         self.left_out: dict[bytes, str] = {}
         self.held: set[bytes] = set()
         # those of them that were sent once since the last publish, and never before
@@ -110,14 +110,15 @@ class Files:
         began = time.time_ns()
         listing = self._lister.list()
         self._name_faults(listing)
-        self.listed_bytes = sum(file.stamp.size for file in listing.files.values() if file.stamp.size <= MAX_BODY)
+        if not self.held:
+            self.text_bytes = sum(file.stamp.size for file in listing.files.values() if _may_be_text(file))
         yield from self._steps(listing, self._known.keys() - listing.files.keys(), began)
 
     def _can_be_loaded(self, name: bytes, file: File, began: int) -> bool:
         """Whether the program can take the bytes of a file as they are, and the next change will show in its stamp."""
         is_old = name not in self._recent and max(file.stamp.modified, file.stamp.changed) <= began - _TICK
-        is_short = file.stamp.size <= MAX_BODY and len(names.quote(self.prefix + name)) <= names.MAX_NAME
-        return is_old and is_short and _is_text(file.path) and not _is_marked(file)
+        is_short = file.stamp.size <= MOST_BODY and len(names.quote(self.prefix + name)) <= MOST_NAME
+        return is_old and is_short and _is_text(file.path) and _is_plain(_head_of(file))
 
     @property
     def has_unwatched(self) -> bool:
@@ -272,18 +273,32 @@ def _opened(file: File) -> int:
     return os.open(file.path, os.O_RDONLY | os.O_NOFOLLOW | os.O_NONBLOCK | os.O_CLOEXEC)
 
 
-def _is_marked(file: File) -> bool:
-    """Whether a file begins with a byte order mark, as far as it can be read."""
+def _head_of(file: File) -> bytes:
+    """How a file begins, as far as it can be read."""
     try:
         descriptor = _opened(file)
     except OSError:
-        return False
+        return b""
     try:
-        return mark_of(os.read(descriptor, _LONGEST_MARK)) != b""
+        return os.read(descriptor, _HEAD)
     except OSError:
-        return False
+        return b""
     finally:
         os.close(descriptor)
+
+
+def _may_be_text(file: File) -> bool:
+    return file.stamp.size <= _SMALL or (file.stamp.size <= MOST_BODY and not _is_binary(_head_of(file)))
+
+
+def _is_binary(head: bytes) -> bool:
+    """Whether a file that begins so is no text."""
+    return b"\0" in head and not decoder_of(mark_of(head))
+
+
+def _is_plain(head: bytes) -> bool:
+    """Whether a file that begins so is as a document has it, as far as that tells."""
+    return b"\0" not in head and not mark_of(head)
 
 
 def mark_of(data: bytes) -> bytes:
@@ -306,19 +321,22 @@ def text_of(data: bytes) -> bytes:
 
 def _body_of(file: File) -> bytes:
     """The text of a file. `ChangeRefused` if no document can have it."""
-    if file.stamp.size > MAX_BODY:
+    if file.stamp.size > MOST_BODY:
         raise ChangeRefused("body too long", file.path)
     descriptor = _opened(file)
     with open(descriptor, "rb") as opened:
-        if not stat.S_ISREG(os.fstat(descriptor).st_mode):
+        state = os.fstat(descriptor)
+        if not stat.S_ISREG(state.st_mode):
             raise FileNotFoundError
-        body = text_of(opened.read(MAX_BODY + 1))
-    if len(body) > MAX_BODY:
+        head = opened.read(_HEAD)
+        if _is_binary(head):
+            raise ChangeRefused("binary", file.path)
+        # one that grows meanwhile is looked at again
+        body = text_of(head + opened.read(max(min(state.st_size, MOST_BODY) + 1 - len(head), 0)))
+    if len(body) > MOST_BODY:
         raise ChangeRefused("body too long", file.path)
     if b"\0" in body:
         raise ChangeRefused("binary", file.path)
-    if len(body) > MAX_LINE and max(map(len, body.split(b"\n"))) > MAX_LINE:
-        raise ChangeRefused("line too long", file.path)
     return body
 
 

@@ -10,8 +10,8 @@ import re
 from urllib.parse import unquote_to_bytes
 
 from .errors import ChangeRefused
+from .program import MOST_NAME
 
-MAX_NAME = 255
 _QUOTED = re.compile(rb"[\0-\x20%\x7f]")
 
 
@@ -36,10 +36,10 @@ def unquote(name: bytes) -> bytes:
 
 
 def checked(name: str | bytes) -> bytes:
-    """The quoted name. `ChangeRefused` if it is empty, or over 255 bytes once it is quoted."""
+    """The quoted name. `ChangeRefused` if it is empty, or over 4,096 bytes once it is quoted."""
     quoted = quote(name)
     if not quoted:
         raise ChangeRefused("name empty", b"")
-    if len(quoted) > MAX_NAME:
+    if len(quoted) > MOST_NAME:
         raise ChangeRefused("name too long", to_bytes(name))
     return quoted

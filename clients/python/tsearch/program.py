@@ -16,6 +16,9 @@ from .errors import Error
 TO_END = 5.0
 # The most puts, loads and removes that a session can be told to take: a client that stays does not want to be full.
 MOST_COMMANDS = 4_294_967_294
+# The greatest lengths that it can be told to take, in bytes: of a body and of a line, and of a name as it is written. Clients want all text.
+MOST_BODY = 67_108_864
+MOST_NAME = 4_096
 _NONE = "there is no program: set TSEARCH to its path, or build it in the repository (./tsearch --path) and install the package again"
 
 
@@ -55,10 +58,13 @@ def command(
     readers: int | None = None,
     search_ms: int | None = None,
     max_commands: int | None = MOST_COMMANDS,
+    max_body: int | None = MOST_BODY,
+    max_line: int | None = MOST_BODY,
+    max_name: int | None = MOST_NAME,
     stats: bool = False,
 ) -> list[str]:
     """The words that start a session. `program` is a path, or the words of a command to which the options are added; by default it is
-    that of `find_program`, with its `Error`."""
+    that of `find_program`, with its `Error`. An option that is None is left to the program."""
     if program is None:
         words = [find_program()]
     elif isinstance(program, (str, os.PathLike)):
@@ -66,7 +72,15 @@ def command(
     else:
         words = list(program)
     words.append("--live")
-    for option, number in ("--readers", readers), ("--search-ms", search_ms), ("--max-commands", max_commands):
+    numbers = {
+        "--readers": readers,
+        "--search-ms": search_ms,
+        "--max-commands": max_commands,
+        "--max-body": max_body,
+        "--max-line": max_line,
+        "--max-name": max_name,
+    }
+    for option, number in numbers.items():
         if number is not None:
             words += [option, str(number)]
     return words + ["--stats"] * stats

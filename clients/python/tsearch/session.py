@@ -19,7 +19,7 @@ from typing import Any, Protocol, Unpack
 from .answers import Answer, Published, Status, joined
 from .core import Core, Sent, SentSearch, ended_by, ended_with, status_of, value_of
 from .errors import Ended, Error
-from .program import MOST_COMMANDS, TO_END, command, kill_group
+from .program import MOST_BODY, MOST_COMMANDS, MOST_NAME, TO_END, command, kill_group
 from .query import Options, Query
 
 # In bytes. Whoever sends waits while more than this has not gone to the program.
@@ -87,8 +87,9 @@ class _Connection:
         life: int,
         most_open: int,
         messages: Callable[[bytes], None] | None,
+        max_answer: int | None = None,
     ) -> None:
-        self.core = Core(life)
+        self.core = Core(life, max_answer)
         self.life = life
         self.process = process
         self.lock = threading.Lock()
@@ -382,7 +383,7 @@ class Search:
 class Changes:
     """What changes the documents of a session. A `restart` passes one to its callback, and every `Session` is one.
 
-    A name is bytes, or text that is taken as UTF-8. It may have any bytes and at most 255 of them once it is quoted
+    A name is bytes, or text that is taken as UTF-8. It may have any bytes and at most 4,096 of them once it is quoted
     (`tsearch.quote`). A name that is empty or too long, and a path that cannot be sent, raise `ChangeRefused` at once. All other
     refusals are in the `Published` of the next publish, and raised by the `wait` of the change. A change that is refused changes
     nothing: an older document of that name stays. Each call waits while a mebibyte has not gone to the program, and raises `Ended`
@@ -428,6 +429,9 @@ class Session(Changes):
     readers: how many threads of the program answer, 0 to 16; by default the program's 2.
     search_ms: a search without an answer in so many milliseconds raises `TooSlow`.
     max_commands: how many puts, loads and removes the session takes; by default as many as it can.
+    max_body, max_line, max_name: how many bytes a body, a line and a quoted name may have; by default as many as they can, and with None as
+        many as the program takes by itself.
+    max_answer: how many bytes an answer may have; `SearchRefused` for one that has more. By default as many as there is memory for.
     stats: whether answers say how many documents were candidates.
     messages: is called with what the program writes to standard error, in the session's own thread; it must not call the session.
     most_open: how many searches are at the program at a time, 1 to 1,000; the next `find` waits for its turn.
@@ -444,14 +448,21 @@ class Session(Changes):
         readers: int | None = None,
         search_ms: int | None = None,
         max_commands: int | None = MOST_COMMANDS,
+        max_body: int | None = MOST_BODY,
+        max_line: int | None = MOST_BODY,
+        max_name: int | None = MOST_NAME,
+        max_answer: int | None = None,
         stats: bool = False,
         messages: Callable[[bytes], None] | None = None,
         most_open: int = MOST_OPEN,
     ) -> None:
         if not 1 <= most_open <= 1_000:
             raise ValueError("most_open is 1 to 1,000")
-        self._words: list[str] | None = command(program, readers=readers, search_ms=search_ms, max_commands=max_commands, stats=stats)
-        self._messages, self._most_open = messages, most_open
+        self._words: list[str] | None = command(
+            program, readers=readers, search_ms=search_ms, max_commands=max_commands,
+            max_body=max_body, max_line=max_line, max_name=max_name, stats=stats,
+        )  # fmt: skip
+        self._messages, self._most_open, self._max_answer = messages, most_open, max_answer
         self._restarting, self._swapping, self._is_closed = threading.Lock(), threading.Lock(), False
         super().__init__(self._start(1))
 
@@ -461,7 +472,7 @@ class Session(Changes):
         The descriptors are duplicated, and the files set not to block: the caller closes its own. Such a session cannot be restarted."""
         session = cls.__new__(cls)
         session._words = None
-        session._messages, session._most_open = None, most_open
+        session._messages, session._most_open, session._max_answer = None, most_open, None
         session._restarting, session._swapping, session._is_closed = threading.Lock(), threading.Lock(), False
         here, there = (os.dup(file if isinstance(file, int) else file.fileno()) for file in (reading, writing))
         Changes.__init__(session, _Connection(here, there, None, 1, most_open, None))
@@ -476,7 +487,7 @@ class Session(Changes):
         reading, writing = os.dup(process.stdout.fileno()), os.dup(process.stdin.fileno())
         process.stdin.close()
         process.stdout.close()
-        return _Connection(reading, writing, process, life, self._most_open, self._messages)
+        return _Connection(reading, writing, process, life, self._most_open, self._messages, self._max_answer)
 
     @property
     def life(self) -> int:

@@ -19,6 +19,9 @@ one_spelling arguments one other is is' = record {
   max_commands = is.found.max_commands ∙ sym is'.found.max_commands;
   stats = same_truth _ one.stats other.stats is.found.stats is'.found.stats;
   search_ms = is.found.search_ms ∙ sym is'.found.search_ms;
+  max_body = is.found.max_body ∙ sym is'.found.max_body;
+  max_line = is.found.max_line ∙ sym is'.found.max_line;
+  max_name = is.found.max_name ∙ sym is'.found.max_name;
   file = is.found.file ∙ sym is'.found.file;
 }
 

@@ -101,10 +101,11 @@ module _ (old : Command) (m : ArgMatches) (p : IsParsedFrom old m) (options : Ha
             from_entry x got.0 found got.1 ((bytes_eq-Decides got.0.0.now id).0 got.2) got.3
 
 abbrev option_names : List (List ℕ)
-option_names = codes "readers" ∷ codes "stats" ∷ codes "max-commands" ∷ codes "live" ∷ codes "search-ms" ∷ codes "FILE" ∷ []
+option_names = codes "readers" ∷ codes "stats" ∷ codes "max-commands" ∷ codes "live" ∷ codes "search-ms" ∷ codes "max-body"
+    ∷ codes "max-line" ∷ codes "max-name" ∷ codes "FILE" ∷ []
 
-six_options : (c : Command) → HasOptions c → length (args_of c) ≡ 6
-six_options c options = sym (length-map (args_of c) (λ (a : Arg). a.id.now)) ∙ ap length options.names
+nine_options : (c : Command) → HasOptions c → length (args_of c) ≡ 9
+nine_options c options = sym (length-map (args_of c) (λ (a : Arg). a.id.now)) ∙ ap length options.names
 
 name_at : (c : Command) → HasOptions c → (j : ℕ) (e : Arg) → j < length (args_of c)
     → (slice_index_or (args_of c) j e).id.now ≡ slice_index_or option_names j []
@@ -115,40 +116,85 @@ first_of : (xs : List Arg) → 0 < length xs → Arg
 first_of [] lt = absurd (omega arith)
 first_of (x ∷ xs) lt = x
 
-readers_alone : (j : ℕ) → j < 6 → bytes_eq (slice_index_or option_names j []) (codes "readers") ≡ true → j ≡ 0
+readers_alone : (j : ℕ) → j < 9 → bytes_eq (slice_index_or option_names j []) (codes "readers") ≡ true → j ≡ 0
 readers_alone zero lt same = refl
 readers_alone (suc zero) lt same = cc
 readers_alone (suc (suc zero)) lt same = cc
 readers_alone (suc (suc (suc zero))) lt same = cc
 readers_alone (suc (suc (suc (suc zero)))) lt same = cc
 readers_alone (suc (suc (suc (suc (suc zero))))) lt same = cc
-readers_alone (suc (suc (suc (suc (suc (suc n)))))) lt same = absurd (omega arith)
+readers_alone (suc (suc (suc (suc (suc (suc zero)))))) lt same = cc
+readers_alone (suc (suc (suc (suc (suc (suc (suc zero))))))) lt same = cc
+readers_alone (suc (suc (suc (suc (suc (suc (suc (suc zero)))))))) lt same = cc
+readers_alone (suc (suc (suc (suc (suc (suc (suc (suc (suc n))))))))) lt same = absurd (omega arith)
 
-max_commands_alone : (j : ℕ) → j < 6 → bytes_eq (slice_index_or option_names j []) (codes "max-commands") ≡ true → j ≡ 2
+max_commands_alone : (j : ℕ) → j < 9 → bytes_eq (slice_index_or option_names j []) (codes "max-commands") ≡ true → j ≡ 2
 max_commands_alone zero lt same = cc
 max_commands_alone (suc zero) lt same = cc
 max_commands_alone (suc (suc zero)) lt same = refl
 max_commands_alone (suc (suc (suc zero))) lt same = cc
 max_commands_alone (suc (suc (suc (suc zero)))) lt same = cc
 max_commands_alone (suc (suc (suc (suc (suc zero))))) lt same = cc
-max_commands_alone (suc (suc (suc (suc (suc (suc n)))))) lt same = absurd (omega arith)
+max_commands_alone (suc (suc (suc (suc (suc (suc zero)))))) lt same = cc
+max_commands_alone (suc (suc (suc (suc (suc (suc (suc zero))))))) lt same = cc
+max_commands_alone (suc (suc (suc (suc (suc (suc (suc (suc zero)))))))) lt same = cc
+max_commands_alone (suc (suc (suc (suc (suc (suc (suc (suc (suc n))))))))) lt same = absurd (omega arith)
 
-search_ms_alone : (j : ℕ) → j < 6 → bytes_eq (slice_index_or option_names j []) (codes "search-ms") ≡ true → j ≡ 4
+search_ms_alone : (j : ℕ) → j < 9 → bytes_eq (slice_index_or option_names j []) (codes "search-ms") ≡ true → j ≡ 4
 search_ms_alone zero lt same = cc
 search_ms_alone (suc zero) lt same = cc
 search_ms_alone (suc (suc zero)) lt same = cc
 search_ms_alone (suc (suc (suc zero))) lt same = cc
 search_ms_alone (suc (suc (suc (suc zero)))) lt same = refl
 search_ms_alone (suc (suc (suc (suc (suc zero))))) lt same = cc
-search_ms_alone (suc (suc (suc (suc (suc (suc n)))))) lt same = absurd (omega arith)
+search_ms_alone (suc (suc (suc (suc (suc (suc zero)))))) lt same = cc
+search_ms_alone (suc (suc (suc (suc (suc (suc (suc zero))))))) lt same = cc
+search_ms_alone (suc (suc (suc (suc (suc (suc (suc (suc zero)))))))) lt same = cc
+search_ms_alone (suc (suc (suc (suc (suc (suc (suc (suc (suc n))))))))) lt same = absurd (omega arith)
 
--- the option at a place below six, whose name is met once and begins with neither `h` nor `v`
-option_at : (c : Command) → HasOptions c → (k : ℕ) → k < 6 → (id : List ℕ) → slice_index_or option_names k [] ≡ id
-    → ((j : ℕ) → j < 6 → bytes_eq (slice_index_or option_names j []) id ≡ true → j ≡ k)
+max_body_alone : (j : ℕ) → j < 9 → bytes_eq (slice_index_or option_names j []) (codes "max-body") ≡ true → j ≡ 5
+max_body_alone zero lt same = cc
+max_body_alone (suc zero) lt same = cc
+max_body_alone (suc (suc zero)) lt same = cc
+max_body_alone (suc (suc (suc zero))) lt same = cc
+max_body_alone (suc (suc (suc (suc zero)))) lt same = cc
+max_body_alone (suc (suc (suc (suc (suc zero))))) lt same = refl
+max_body_alone (suc (suc (suc (suc (suc (suc zero)))))) lt same = cc
+max_body_alone (suc (suc (suc (suc (suc (suc (suc zero))))))) lt same = cc
+max_body_alone (suc (suc (suc (suc (suc (suc (suc (suc zero)))))))) lt same = cc
+max_body_alone (suc (suc (suc (suc (suc (suc (suc (suc (suc n))))))))) lt same = absurd (omega arith)
+
+max_line_alone : (j : ℕ) → j < 9 → bytes_eq (slice_index_or option_names j []) (codes "max-line") ≡ true → j ≡ 6
+max_line_alone zero lt same = cc
+max_line_alone (suc zero) lt same = cc
+max_line_alone (suc (suc zero)) lt same = cc
+max_line_alone (suc (suc (suc zero))) lt same = cc
+max_line_alone (suc (suc (suc (suc zero)))) lt same = cc
+max_line_alone (suc (suc (suc (suc (suc zero))))) lt same = cc
+max_line_alone (suc (suc (suc (suc (suc (suc zero)))))) lt same = refl
+max_line_alone (suc (suc (suc (suc (suc (suc (suc zero))))))) lt same = cc
+max_line_alone (suc (suc (suc (suc (suc (suc (suc (suc zero)))))))) lt same = cc
+max_line_alone (suc (suc (suc (suc (suc (suc (suc (suc (suc n))))))))) lt same = absurd (omega arith)
+
+max_name_alone : (j : ℕ) → j < 9 → bytes_eq (slice_index_or option_names j []) (codes "max-name") ≡ true → j ≡ 7
+max_name_alone zero lt same = cc
+max_name_alone (suc zero) lt same = cc
+max_name_alone (suc (suc zero)) lt same = cc
+max_name_alone (suc (suc (suc zero))) lt same = cc
+max_name_alone (suc (suc (suc (suc zero)))) lt same = cc
+max_name_alone (suc (suc (suc (suc (suc zero))))) lt same = cc
+max_name_alone (suc (suc (suc (suc (suc (suc zero)))))) lt same = cc
+max_name_alone (suc (suc (suc (suc (suc (suc (suc zero))))))) lt same = refl
+max_name_alone (suc (suc (suc (suc (suc (suc (suc (suc zero)))))))) lt same = cc
+max_name_alone (suc (suc (suc (suc (suc (suc (suc (suc (suc n))))))))) lt same = absurd (omega arith)
+
+-- the option at a place below nine, whose name is met once and begins with neither `h` nor `v`
+option_at : (c : Command) → HasOptions c → (k : ℕ) → k < 9 → (id : List ℕ) → slice_index_or option_names k [] ≡ id
+    → ((j : ℕ) → j < 9 → bytes_eq (slice_index_or option_names j []) id ≡ true → j ≡ k)
     → (slice_index_or id 0 0 ≡ 0 → ⊥) → (slice_index_or id 0 0 ≡ 104 → ⊥) → (slice_index_or id 0 0 ≡ 118 → ⊥)
     → IsOption c k id
 option_at c options k lt id at alone some no_h no_v =
-    let count = six_options c options in
+    let count = nine_options c options in
     let below : k < length (args_of c) = rw count lt in
     let named : (d : Arg) → (slice_index_or (args_of c) k d).id.now ≡ id = λ d. name_at c options k d below ∙ at in
     record {
@@ -177,4 +223,19 @@ max_commands_option c options =
 pub search_ms_option : (c : Command) → HasOptions c → IsOption c 4 (codes "search-ms")
 search_ms_option c options =
     option_at c options 4 (omega arith) (codes "search-ms") refl search_ms_alone (λ e. absurd (omega arith))
+    (λ e. absurd (omega arith)) (λ e. absurd (omega arith))
+
+pub max_body_option : (c : Command) → HasOptions c → IsOption c 5 (codes "max-body")
+max_body_option c options =
+    option_at c options 5 (omega arith) (codes "max-body") refl max_body_alone (λ e. absurd (omega arith))
+    (λ e. absurd (omega arith)) (λ e. absurd (omega arith))
+
+pub max_line_option : (c : Command) → HasOptions c → IsOption c 6 (codes "max-line")
+max_line_option c options =
+    option_at c options 6 (omega arith) (codes "max-line") refl max_line_alone (λ e. absurd (omega arith))
+    (λ e. absurd (omega arith)) (λ e. absurd (omega arith))
+
+pub max_name_option : (c : Command) → HasOptions c → IsOption c 7 (codes "max-name")
+max_name_option c options =
+    option_at c options 7 (omega arith) (codes "max-name") refl max_name_alone (λ e. absurd (omega arith))
     (λ e. absurd (omega arith)) (λ e. absurd (omega arith))

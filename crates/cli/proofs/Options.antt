@@ -16,20 +16,24 @@ use Rattle.clap.proofs.FaultLemmas.{free_args}
 use Rattle.clap.proofs.OnLiterals.{clap_on_literals}
 use Rattle.clap.proofs.SimpleLemmas.{ready_simple, simple_groups}
 use Rattle.cli.specs.CommandLine.{command_line}
-use Rattle.cli.specs.declared.limits.TheConstants.{MAX_COMMANDS, MAX_READERS, MAX_SEARCH_MS}
+use Rattle.cli.specs.declared.limits.TheConstants.{MAX_BODY, MAX_COMMANDS, MAX_LINE, MAX_NAME, MAX_READERS, MAX_SEARCH_MS}
 
 -- the argument at a place takes a number from `low` to `high`
 abbrev pub TakesNumber : Command → ℕ → ℕ → ℕ → Type 0
 TakesNumber c place low high =
     (d : Arg) → (slice_index_or (args_of c) place d).value_parser ≡ Some (Signed (pos low) (pos high))
 
--- the command has the program's options, of which three take a number within limits, and none excludes another
+-- the command has the program's options, of which six take a number within limits, and none excludes another
 pub record HasOptions (c : Command) : Type 0 where
   pub names : map (λ a. a.id.now) (args_of c)
-      ≡ codes "readers" ∷ codes "stats" ∷ codes "max-commands" ∷ codes "live" ∷ codes "search-ms" ∷ codes "FILE" ∷ []
+      ≡ codes "readers" ∷ codes "stats" ∷ codes "max-commands" ∷ codes "live" ∷ codes "search-ms" ∷ codes "max-body"
+      ∷ codes "max-line" ∷ codes "max-name" ∷ codes "FILE" ∷ []
   pub readers : TakesNumber c 0 0 MAX_READERS
   pub max_commands : TakesNumber c 2 1 MAX_COMMANDS
   pub search_ms : TakesNumber c 4 1 MAX_SEARCH_MS
+  pub max_body : TakesNumber c 5 1 MAX_BODY
+  pub max_line : TakesNumber c 6 1 MAX_LINE
+  pub max_name : TakesNumber c 7 1 MAX_NAME
   pub plain : IsPlain c
   pub local : (out-Command c).has_globals ≡ false
 
@@ -54,7 +58,8 @@ fields f c is = map_rules f (args_of c) ∙ ap (λ (a : App). map f a.top.rules)
 
 abbrev parsers : List (Option ValueParser)
 parsers = Some (Signed (pos 0) (pos MAX_READERS)) ∷ None ∷ Some (Signed (pos 1) (pos MAX_COMMANDS)) ∷ None
-    ∷ Some (Signed (pos 1) (pos MAX_SEARCH_MS)) ∷ None ∷ []
+    ∷ Some (Signed (pos 1) (pos MAX_SEARCH_MS)) ∷ Some (Signed (pos 1) (pos MAX_BODY)) ∷ Some (Signed (pos 1) (pos MAX_LINE))
+    ∷ Some (Signed (pos 1) (pos MAX_NAME)) ∷ None ∷ []
 
 pub has_options : (c : Command) → app_of c ≡ command_line → HasOptions c
 has_options c is =
@@ -64,18 +69,27 @@ has_options c is =
     let alone = simple_groups c (ap (λ (s : Shape). list_all (λ (a : Rule). a.is_simple) s.rules) shape) in
     let names = fields (λ (r : Rule). r.id) c is in
     let takes : map (λ (a : Arg). a.value_parser) (args_of c) ≡ parsers = fields (λ (r : Rule). r.parser) c is in
-    let six : length (args_of c) ≡ 6 = sym (length-map (args_of c) (λ (a : Arg). a.value_parser)) ∙ ap length takes in
+    let nine : length (args_of c) ≡ 9 = sym (length-map (args_of c) (λ (a : Arg). a.value_parser)) ∙ ap length takes in
     record {
       names = names;
       readers = λ d.
-          let low : 0 < length (args_of c) = rw six (omega arith) in
+          let low : 0 < length (args_of c) = rw nine (omega arith) in
           sym (get_or-map (λ (a : Arg). a.value_parser) (args_of c) 0 d None low) ∙ ap (λ (l : List (Option ValueParser)). slice_index_or l 0 None) takes;
       max_commands = λ d.
-          let low : 2 < length (args_of c) = rw six (omega arith) in
+          let low : 2 < length (args_of c) = rw nine (omega arith) in
           sym (get_or-map (λ (a : Arg). a.value_parser) (args_of c) 2 d None low) ∙ ap (λ (l : List (Option ValueParser)). slice_index_or l 2 None) takes;
       search_ms = λ d.
-          let low : 4 < length (args_of c) = rw six (omega arith) in
+          let low : 4 < length (args_of c) = rw nine (omega arith) in
           sym (get_or-map (λ (a : Arg). a.value_parser) (args_of c) 4 d None low) ∙ ap (λ (l : List (Option ValueParser)). slice_index_or l 4 None) takes;
+      max_body = λ d.
+          let low : 5 < length (args_of c) = rw nine (omega arith) in
+          sym (get_or-map (λ (a : Arg). a.value_parser) (args_of c) 5 d None low) ∙ ap (λ (l : List (Option ValueParser)). slice_index_or l 5 None) takes;
+      max_line = λ d.
+          let low : 6 < length (args_of c) = rw nine (omega arith) in
+          sym (get_or-map (λ (a : Arg). a.value_parser) (args_of c) 6 d None low) ∙ ap (λ (l : List (Option ValueParser)). slice_index_or l 6 None) takes;
+      max_name = λ d.
+          let low : 7 < length (args_of c) = rw nine (omega arith) in
+          sym (get_or-map (λ (a : Arg). a.value_parser) (args_of c) 7 d None low) ∙ ap (λ (l : List (Option ValueParser)). slice_index_or l 7 None) takes;
       plain = (λ k d low. ((free k d low).exclusive, (free k d low).conflicts, (free k d low).overrides, alone k d low), simple.groups);
       local = simple.globals;
     }

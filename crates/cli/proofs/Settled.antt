@@ -1,7 +1,10 @@
 -- What a getter returns for an argument's text, or the default if there is no text.
 use Rattle.std.proofs.Common.{◌≡◌, ◌∙◌, ◌⊎◌, ◌≤◌, ap, sym, refl, subst, inl, inr, true, false, Bool, arith, ℕ, List, [], Option, Some, None, codes}
 use Rattle.std.specs.List.{slice_index_or}
-use Rattle.std.specs.Prelude.{◌↔◌, Result, Ok, IfSome, option_map, unwrap_or}
+use Rattle.std.specs.Prelude.{◌↔◌, Result, Ok, Err, IfSome, option_map, unwrap_or}
+use Rattle.std.specs.Result.{IsErrAnd}
+use Rattle.clap.specs.Kinds.{FailsBy, HasKind, Kinds}
+use Rattle.clap.specs.declared.error.Error.{Error}
 use Rattle.std.specs.Str.Parse.{ParsesBool, ParsesUnsigned}
 use Rattle.clap.specs.Matches.{ReadsOne}
 use Rattle.cli.specs.CommandLine.{number_of, number_or}
@@ -51,3 +54,8 @@ settled_flag E (Some t) (Some false) v is none value =
 settled_flag E (Some t) None v is none value =
     let at : v ≡ false = is in
     (λ set. cc, λ some. absurd ((value t refl).1.0 (ap (λ (o : Option (List ℕ)). unwrap_or o t) some)))
+
+-- an error that is handed on has the same kind
+pub fails_again : {T : Type 0} (kinds : Kinds) (error : Error) (r : Result T Error) → IsErrAnd r (λ e. e ≡ error) → HasKind kinds error → FailsBy kinds r
+fails_again kinds error (Ok value) is has = absurd is
+fails_again kinds error (Err e) is has = subst (HasKind kinds) (sym is) has

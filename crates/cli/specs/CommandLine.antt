@@ -1,5 +1,5 @@
--- The command line `tsearch [--readers N] [--stats] [--max-commands N] [--live] [--search-ms N] [FILE]`, and what arguments
--- ask for with it.
+-- The command line `tsearch [--readers N] [--stats] [--max-commands N] [--live] [--search-ms N] [--max-body N] [--max-line N]
+-- [--max-name N] [FILE]`, and what arguments ask for with it.
 use Rattle.std.specs.Prelude.{◌≡◌, ◌≢◌, ◌≤◌, ◌<◌, ◌↔◌, ℕ, List, [], Option, Some, None, true, codes, option_map, IfSome, pos, ⊤}
 use Rattle.std.specs.Str.Parse.{digits_value, without_leading_plus}
 use Rattle.clap.specs.Kinds.{IsAmong, Kinds}
@@ -13,7 +13,7 @@ use Rattle.clap.specs.declared.error.kind.ErrorKind.TheVariants.{DisplayHelp, Di
 use Rattle.cli.specs.declared.arguments.Request.{Request}
 use Rattle.cli.specs.declared.arguments.Request.TheVariants.{Run, Help, Version}
 use Rattle.cli.specs.declared.arguments.Settings.{Settings}
-use Rattle.cli.specs.declared.limits.TheConstants.{DEFAULT_MAX_COMMANDS, DEFAULT_READERS, MAX_COMMANDS, MAX_READERS, MAX_SEARCH_MS}
+use Rattle.cli.specs.declared.limits.TheConstants.{DEFAULT_MAX_BODY, DEFAULT_MAX_COMMANDS, DEFAULT_MAX_LINE, DEFAULT_MAX_NAME, DEFAULT_READERS, MAX_BODY, MAX_COMMANDS, MAX_LINE, MAX_NAME, MAX_READERS, MAX_SEARCH_MS}
 use Rattle.cli.specs.declared.error.ArgumentError.{ArgumentError}
 use Rattle.cli.specs.declared.error.ArgumentError.TheVariants as error
 
@@ -32,12 +32,15 @@ with_version app = record app { top = record app.top { has_version = true } }
 
 -- the options and the argument of `tsearch`
 abbrev pub command_line : App
-command_line = with_rule (with_rule (with_rule (with_rule (with_rule (with_rule (with_version (new_app (codes "tsearch")))
+command_line = with_rule (with_rule (with_rule (with_rule (with_rule (with_rule (with_rule (with_rule (with_rule (with_version (new_app (codes "tsearch")))
     (number_option (codes "readers") 0 MAX_READERS))
     (flag (codes "stats")))
     (number_option (codes "max-commands") 1 MAX_COMMANDS))
     (flag (codes "live")))
     (number_option (codes "search-ms") 1 MAX_SEARCH_MS))
+    (number_option (codes "max-body") 1 MAX_BODY))
+    (number_option (codes "max-line") 1 MAX_LINE))
+    (number_option (codes "max-name") 1 MAX_NAME))
     (new_rule (codes "FILE"))
 
 -- what `clap` finds in the arguments when it reads them by this command line
@@ -64,6 +67,9 @@ pub record IsSettingsIn (found : List Row) (settings : Settings) : Type 0 where
   pub max_commands : settings.max_commands ≡ number_or DEFAULT_MAX_COMMANDS (one_of (codes "max-commands") found)
   pub stats : (settings.stats ≡ true) ↔ (one_of (codes "stats") found ≡ Some (codes "true"))
   pub search_ms : settings.search_ms ≡ option_map number_of (one_of (codes "search-ms") found)
+  pub max_body : settings.max_body ≡ number_or DEFAULT_MAX_BODY (one_of (codes "max-body") found)
+  pub max_line : settings.max_line ≡ number_or DEFAULT_MAX_LINE (one_of (codes "max-line") found)
+  pub max_name : settings.max_name ≡ number_or DEFAULT_MAX_NAME (one_of (codes "max-name") found)
   pub file : option_map (λ path. path.now) settings.file ≡ first_of (codes "FILE") found
 
 pub record IsInLimits (settings : Settings) : Type 0 where
@@ -71,6 +77,9 @@ pub record IsInLimits (settings : Settings) : Type 0 where
   pub some_commands : 0 < settings.max_commands
   pub few_commands : settings.max_commands ≤ MAX_COMMANDS
   pub search_ms : IfSome settings.search_ms (λ ms. (0 < ms) × (ms ≤ MAX_SEARCH_MS))
+  pub max_body : (0 < settings.max_body) × (settings.max_body ≤ MAX_BODY)
+  pub max_line : (0 < settings.max_line) × (settings.max_line ≤ MAX_LINE)
+  pub max_name : (0 < settings.max_name) × (settings.max_name ≤ MAX_NAME)
 
 -- Nothing is wrong with the arguments, and they give these settings.
 pub record SpellSettings (arguments : List Text) (settings : Settings) : Type 0 where

@@ -1,16 +1,19 @@
 //! The arguments of the program, and the settings that they spell.
 
-ghost use Rattle.std.specs.Prelude.{◌≡◌, IfOk, IfErr, map, string_bytes};
+ghost use Rattle.std.specs.Prelude.{◌≡◌, IfOk, IfErr, Some, codes, false, map, string_bytes};
 ghost use Rattle.clap.specs.Faults.{fault_of};
 ghost use Rattle.clap.specs.Kinds.{FailsBy};
-ghost use Rattle.clap.specs.Simple.{app_of};
-ghost use Rattle.cli.specs.CommandLine.{IsInLimits, IsRefusalOf, IsRequestOf, IsSettingsIn, command_line, found_in};
+ghost use Rattle.clap.specs.Simple.{app_of, new_app, new_rule};
+ghost use Rattle.clap.specs.Walk.{rule_of};
+ghost use Rattle.cli.specs.CommandLine.{IsInLimits, IsRefusalOf, IsRequestOf, IsSettingsIn, command_line, flag, found_in, with_version};
 
 use crate::error::ArgumentError;
 use crate::help::{HELP, VERSION};
 use crate::limits::{
-    DEFAULT_MAX_COMMANDS, DEFAULT_READERS, MAX_COMMANDS, MAX_READERS, MAX_SEARCH_MS,
+    DEFAULT_MAX_BODY, DEFAULT_MAX_COMMANDS, DEFAULT_MAX_LINE, DEFAULT_MAX_NAME, DEFAULT_READERS,
+    MAX_BODY, MAX_COMMANDS, MAX_LINE, MAX_NAME, MAX_READERS, MAX_SEARCH_MS,
 };
+use clap::builder::ValueParser;
 use clap::error::ErrorKind;
 use clap::{Arg, ArgAction, Command, Error, value_parser};
 use std::alloc::{AllocError, Global};
@@ -29,6 +32,12 @@ pub struct Settings<'a> {
     /// `--search-ms`: after how many milliseconds a search that has no answer yet is given up, 1 to 4,294,967,295, if
     /// there is such a limit.
     pub search_ms: Option<u32>,
+    /// `--max-body`: how long a body may be, in bytes, 1 to 67,108,864, by default 1,048,576.
+    pub max_body: u32,
+    /// `--max-line`: how long a line may be, in bytes, 1 to 67,108,864, by default 16,384.
+    pub max_line: u32,
+    /// `--max-name`: how long a name may be, in bytes, 1 to 4,096, by default 255.
+    pub max_name: u32,
     /// `FILE`: the path of the script, if it is not standard input.
     pub file: Option<&'a str>,
 }
@@ -90,12 +99,18 @@ fn read_settings<'a>(alloc: Global, arguments: &'a [String]) -> Result<Settings<
     let stats = matches.get_one::<bool>("stats");
     let live = matches.get_one::<bool>("live");
     let search_ms = matches.get_one::<u32>("search-ms");
+    let max_body = matches.get_one::<u32>("max-body");
+    let max_line = matches.get_one::<u32>("max-line");
+    let max_name = matches.get_one::<u32>("max-name");
     Ok(Settings {
         live: live.unwrap_or(false),
         readers: readers.unwrap_or(DEFAULT_READERS),
         max_commands: max_commands.unwrap_or(DEFAULT_MAX_COMMANDS),
         stats: stats.unwrap_or(false),
         search_ms,
+        max_body: max_body.unwrap_or(DEFAULT_MAX_BODY),
+        max_line: max_line.unwrap_or(DEFAULT_MAX_LINE),
+        max_name: max_name.unwrap_or(DEFAULT_MAX_NAME),
         file: matches.get_str("FILE"),
     })
 }
@@ -104,33 +119,47 @@ fn read_settings<'a>(alloc: Global, arguments: &'a [String]) -> Result<Settings<
 fn command<'a>(alloc: Global) -> Result<Command<'a>, AllocError>
     ensures command_line { IfOk result (λ command. app_of command ≡ command_line) }
 {
-    let readers = Arg::new(alloc, "readers")
-        .long("readers")
+    let readers = value_parser!(u32).range(0..=MAX_READERS as i64);
+    let max_commands = value_parser!(u32).range(1..=MAX_COMMANDS as i64);
+    let search_ms = value_parser!(u32).range(1..=MAX_SEARCH_MS as i64);
+    let max_body = value_parser!(u32).range(1..=MAX_BODY as i64);
+    let max_line = value_parser!(u32).range(1..=MAX_LINE as i64);
+    let max_name = value_parser!(u32).range(1..=MAX_NAME as i64);
+    program(alloc)?
+        .arg(number_option(alloc, "readers", readers))?
+        .arg(flag(alloc, "stats"))?
+        .arg(number_option(alloc, "max-commands", max_commands))?
+        .arg(flag(alloc, "live"))?
+        .arg(number_option(alloc, "search-ms", search_ms))?
+        .arg(number_option(alloc, "max-body", max_body))?
+        .arg(number_option(alloc, "max-line", max_line))?
+        .arg(number_option(alloc, "max-name", max_name))?
+        .arg(Arg::new(alloc, "FILE"))
+}
+
+/// The program without its options. An `Err` means that memory ran out.
+fn program<'a>(alloc: Global) -> Result<Command<'a>, AllocError>
+    ensures { IfOk result (λ command. app_of command ≡ with_version (new_app (codes "tsearch"))) }
+{
+    let named = Command::new(alloc, "tsearch").bin_name("tsearch")?;
+    Ok(named.override_help(HELP).version(VERSION))
+}
+
+/// The option `--name N`, whose value is read by this parser.
+fn number_option<'a>(alloc: Global, name: &'a str, parser: ValueParser<'a>) -> Arg<'a>
+    ensures rule { rule_of result ≡ record (new_rule name.now) { long = Some name.now; value_names = 1; parser = Some parser.entry } }
+    ensures local { result.global ≡ false }
+{
+    Arg::new(alloc, name)
+        .long(name)
         .value_name("N")
-        .value_parser(value_parser!(u32).range(0..=MAX_READERS as i64));
-    let stats = Arg::new(alloc, "stats")
-        .long("stats")
-        .action(ArgAction::SetTrue);
-    let max_commands = Arg::new(alloc, "max-commands")
-        .long("max-commands")
-        .value_name("N")
-        .value_parser(value_parser!(u32).range(1..=MAX_COMMANDS as i64));
-    let live = Arg::new(alloc, "live")
-        .long("live")
-        .action(ArgAction::SetTrue);
-    let search_ms = Arg::new(alloc, "search-ms")
-        .long("search-ms")
-        .value_name("N")
-        .value_parser(value_parser!(u32).range(1..=MAX_SEARCH_MS as i64));
-    let file = Arg::new(alloc, "FILE");
-    Command::new(alloc, "tsearch")
-        .bin_name("tsearch")?
-        .override_help(HELP)
-        .version(VERSION)
-        .arg(readers)?
-        .arg(stats)?
-        .arg(max_commands)?
-        .arg(live)?
-        .arg(search_ms)?
-        .arg(file)
+        .value_parser(parser)
+}
+
+/// The option `--name`, which takes no value.
+fn flag<'a>(alloc: Global, name: &'a str) -> Arg<'a>
+    ensures rule { rule_of result ≡ flag name.now }
+    ensures local { result.global ≡ false }
+{
+    Arg::new(alloc, name).long(name).action(ArgAction::SetTrue)
 }

@@ -22,6 +22,9 @@ Options:
                           is there, whichever search was asked first
       --search-ms <N>     Gives a search up that has no answer N milliseconds after it was asked,
                           1 to 4294967295 [default: no limit]
+      --max-body <N>      How many bytes a document may have, 1 to 67108864 [default: 1048576]
+      --max-line <N>      How many bytes a line of it may have, 1 to 67108864 [default: 16384]
+      --max-name <N>      How many bytes a name may have, 1 to 4096 [default: 255]
   -h, --help              Shows this help
   -V, --version           Shows the version
 
@@ -42,7 +45,7 @@ A script is a list of lines:
   # COMMENT           does nothing, and neither does an empty line
 
 Names and NAMES have no space. An ERE is everything after its space. A document
-has at most 1048576 bytes, in lines of at most 16384 bytes, and no byte 0.
+has no byte 0.
 
 Each search prints `search K version V lines L`, and then each line as NAME:LINE:TEXT.
 What is refused is printed too, with its reason, and the script goes on. Only a put

@@ -184,14 +184,14 @@ length-documents version ds is =
     (λ k d inside. (let good = is.good k d inside in good.0)) (omega arith) in
     omega arith
 
-bytes_at_most : (ds : List Document) → All (λ d. length d.body ≤ 1048576) ds → body_bytes ds ≤ 1048576 * length ds
+bytes_at_most : (ds : List Document) → All (λ d. length d.body ≤ 67108864) ds → body_bytes ds ≤ 67108864 * length ds
 bytes_at_most [] short = omega arith
 bytes_at_most (d ∷ ds) short =
-    let here = All-head (λ e. length e.body ≤ 1048576) d ds short in
-    let rest = bytes_at_most ds (All-tail (λ e. length e.body ≤ 1048576) d ds short) in
+    let here = All-head (λ e. length e.body ≤ 67108864) d ds short in
+    let rest = bytes_at_most ds (All-tail (λ e. length e.body ≤ 67108864) d ds short) in
     omega (arith, here, rest, body_bytes-cons d ds)
 
-pub bytes-documents : (version : ℕ) (ds : List Document) → IsState (state version ds) → body_bytes ds ≤ 1048576 * version
+pub bytes-documents : (version : ℕ) (ds : List Document) → IsState (state version ds) → body_bytes ds ≤ 67108864 * version
 bytes-documents version ds is =
     let most = bytes_at_most ds (λ k d inside. (let good = is.good k d inside in good.3.short)) in
     let count = length-documents version ds is in

@@ -1,5 +1,5 @@
 -- A few documents, found by their numbers and sorted by their names.
-use Rattle.std.proofs.Common.{◌≡◌, ◌≢◌, ℕ, suc, ◌+◌, ◌<◌, ◌==◌, ◌||◌, ◌⊎◌, inl, inr, Bool, true, false, cond, ◌++◌, List, [], ◌∷◌, map, length}
+use Rattle.std.proofs.Common.{◌≡◌, ◌≢◌, ℕ, suc, ◌+◌, ◌<◌, ◌≤◌, ◌==◌, ◌||◌, ◌⊎◌, inl, inr, Bool, true, false, cond, ◌++◌, List, [], ◌∷◌, map, length, take, drop}
 use Rattle.std.proofs.Common.{get_or, Some, refl, sym, ◌∙◌, ap, subst, arith, append_assoc}
 use Rattle.std.specs.Prelude.{All, AllPairs, filter}
 use Rattle.std.specs.List.{AllByRecursion, swap}
@@ -10,7 +10,7 @@ use Rattle.std.specs.declared.cmp.Ordering.TheVariants.{Less, Equal, Greater}
 use Rattle.std.specs.Cmp.Lexicographic.{slice_cmp, nat_list_cmp_total, texts_ties}
 use Rattle.std.proofs.lemmas.Bool.{false≢true, cases_lt, cases_eq}
 use Rattle.std.proofs.lemmas.Bool.Decides.{nat_tests}
-use Rattle.std.proofs.lemmas.List.{length-map, get_or-map, append-nil}
+use Rattle.std.proofs.lemmas.List.{length-map, get_or-map, append-nil, drop_all, length-take, map-append, take-append-drop}
 use Rattle.std.proofs.lemmas.List.Edits.{Swapped, swapped_from_swap, length-swap}
 use Rattle.std.proofs.lemmas.List.Elements.{filter-append}
 use Rattle.std.proofs.lemmas.List.Kept.{AllPairs-from_increasing}
@@ -18,7 +18,7 @@ use Rattle.std.proofs.lemmas.List.Sorted.{IsPermutation-keeps, IsPermutation-map
 use Rattle.posting.specs.ListValue.{has}
 use Rattle.posting.proofs.SetLemmas.{contains-has}
 use Rattle.index.specs.declared.document.SharedDocument.{SharedDocument}
-use Rattle.index.specs.Documents.{Document, document, document_at, is_under, IsInNameOrder}
+use Rattle.index.specs.Documents.{Document, document, document_at, is_under, AreFirstInNameOrder, IsInNameOrder}
 use Rattle.index.specs.Text.{begins_with}
 use Rattle.index.specs.Shared.{document_of, documents_shared}
 use Rattle.index.specs.Private.Chosen.{numbered_document, document_numbered, documents_numbered}
@@ -147,6 +147,37 @@ module _ (ds : List Document) (test : ℕ → Bool) (text : List ℕ) (all : Lis
   taken-end old left none taken =
       numbered-end (is_under text) ds old (filter (is_under text) (documents_numbered ds (picked test text all))) (picked test text left)
       (ap (picked test text) none) taken.so_far
+
+-- ---- the first by their names
+
+pub all-first : (most : ℕ) (chosen taken : List Document) → IsInNameOrder chosen taken → AreFirstInNameOrder most chosen taken
+all-first most chosen taken order = record {
+  others = [];
+  in_order = subst (IsInNameOrder chosen) (sym (append-nil taken)) order;
+  all_or_most = λ fewer. refl;
+}
+
+-- those up to `most`, of all
+pub cut-first : (most : ℕ) (chosen : List Document) (all kept : List SharedDocument) → IsInNameOrder chosen (documents_shared all) → kept ≡ take most all
+    → AreFirstInNameOrder most chosen (documents_shared kept)
+cut-first most chosen all kept order cut = record {
+  others = documents_shared (drop most all);
+  in_order =
+      subst (IsInNameOrder chosen)
+      (sym (ap (λ ds. documents_shared ds ++ documents_shared (drop most all)) cut
+      ∙ (sym (map-append document_of (take most all) (drop most all)) ∙ ap documents_shared (take-append-drop most all)))) order;
+  all_or_most = λ fewer.
+      ap documents_shared (drop_all most all (omega (arith, fewer, ap length cut, length-map kept document_of, length-take most all)));
+}
+
+-- those that were taken, where some may follow, of at least `most`
+pub most-first : (most : ℕ) (chosen taken others : List Document) → IsInNameOrder chosen (taken ++ others) → most ≤ length taken
+    → AreFirstInNameOrder most chosen taken
+most-first most chosen taken others order enough = record {
+  others = others;
+  in_order = order;
+  all_or_most = λ fewer. absurd (omega arith);
+}
 
 -- ---- sorted by their names
 

@@ -1,5 +1,6 @@
 pub mod DocumentLemmas
 pub mod LineLemmas
+pub mod NameLemmas
 pub mod PutLemmas
 pub mod StateLemmas
 pub mod RisingLemmas

@@ -1,5 +1,5 @@
 -- Which documents a list of commands leaves (this program's choice).
-use Rattle.std.specs.Prelude.{◌≡◌, ◌≢◌, ℕ, suc, ◌+◌, ◌==◌, ◌||◌, ◌&&◌, not, Bool, false, if◌then◌else◌, List, [], ◌∷◌, ◌++◌, map, filter, length}
+use Rattle.std.specs.Prelude.{◌≡◌, ◌≢◌, ℕ, suc, ◌+◌, ◌<◌, ◌==◌, ◌||◌, ◌&&◌, not, Bool, false, if◌then◌else◌, List, [], ◌∷◌, ◌++◌, map, filter, length}
 use Rattle.std.specs.Prelude.{All, Option, Some, None, is_some, bytes_eq, Contains, ◌↔◌}
 use Rattle.std.specs.Ordering.{nat_cmp}
 use Rattle.std.specs.Cmp.Lexicographic.{slice_cmp}
@@ -89,6 +89,12 @@ RisesByName documents = IsStrictlySortedBy (slice_cmp nat_cmp) (map (λ d. d.nam
 pub record IsInNameOrder (documents ordered : List Document) : Type 0 where
   pub rises : RisesByName ordered
   pub same : (d : Document) → Contains ordered d ↔ Contains documents d
+
+-- They are the first of these documents in the order of their names: all of them, or at least so many.
+pub record AreFirstInNameOrder (most : ℕ) (documents first : List Document) : Type 0 where
+  pub others : List Document
+  pub in_order : IsInNameOrder documents (first ++ others)
+  pub all_or_most : length first < most → others ≡ []
 
 -- The last of the commands that names the name is a Put with this body.
 pub record IsPutLast (commands : List Command) (name body : List ℕ) : Type 0 where

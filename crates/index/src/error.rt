@@ -9,7 +9,7 @@ use std::alloc::AllocError;
 pub enum NameError {
     /// There are no bytes.
     Empty,
-    /// There are over 255 bytes.
+    /// There are more than a name may have.
     TooLong,
     /// A byte is 0 to 32, or 127.
     BadByte,
@@ -17,18 +17,18 @@ pub enum NameError {
     OutOfMemory,
 }
 
-/// Why bytes are not a body. The causes are checked in this order.
+/// Why bytes are not a body of some lengths. The causes are checked in this order.
 #[derive(Clone, Copy, Debug, PartialEq, Eq)]
 pub enum BodyErrorKind {
-    /// There are over 1,048,576 bytes.
+    /// There are more than a body of these lengths may have.
     TooLong,
     /// A byte is 0.
     NotText,
-    /// A line has over `lines::MAX_LINE` bytes, not counting its line feed.
+    /// A line is longer than these lengths say, not counting its line feed.
     LineTooLong,
 }
 
-/// Bytes that are not a body, handed back.
+/// Bytes that are not a body of some lengths, handed back.
 #[derive(Debug, Drop)]
 pub struct BodyError {
     /// Why the bytes are not a body.

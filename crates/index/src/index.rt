@@ -10,7 +10,7 @@ ghost use Rattle.index.specs.declared.command.Command.TheVariants.{Put as put_co
 ghost use Rattle.query.specs.Query.{formula_of};
 ghost use Rattle.query.specs.Trigrams.{ListsTrigrams};
 ghost use Rattle.index.specs.Text.{IsName, begins_with};
-ghost use Rattle.index.specs.Documents.{document_at, number_of, meets, is_chosen, is_under, IsInNameOrder};
+ghost use Rattle.index.specs.Documents.{document_at, number_of, meets, is_chosen, is_under, AreFirstInNameOrder};
 ghost use Rattle.index.specs.State.{applied, state_of, body_bytes, IsState};
 ghost use Rattle.index.specs.Shared.{documents_shared};
 ghost use Rattle.index.specs.Private.Chosen.{document_numbered, documents_numbered, IsFirstUnder};
@@ -21,7 +21,7 @@ use crate::command::Command;
 use crate::document::SharedDocument;
 use crate::error::{ApplyError, NameError};
 use crate::held::Held;
-use crate::name::Name;
+use crate::name::{MAX_NAME, Name};
 use crate::slots::{Occupant, occupant_at};
 use crate::store::Store;
 use posting::Trigrams;
@@ -34,6 +34,9 @@ use std::ops::Bound;
 /// The documents of a list that is shorter than the number of documents in question divided by this are sorted by name.
 /// For a longer list, all documents in question are gone through in the order of their names.
 const FEW: usize = 8;
+
+/// The same where only the first documents of the list are asked for, since going through the names ends at the last of them.
+const FEW_FOR_FIRST: usize = 64;
 
 /// How many names are passed at once to see where those end that begin with a prefix.
 const STRIDE: usize = 64;
@@ -212,10 +215,11 @@ impl Index {
         sets.postings.select(alloc, query, &sets.live)
     }
 
-    /// The documents whose numbers are in the list and whose names begin with the prefix, in the order of their names.
-    /// A number that no document has is left out. The cost depends mainly on how many names begin with the prefix or,
-    /// if the list is shorter than an eighth of that, on the length of the list. All numbers of the list are gone
-    /// through in either case.
+    /// The documents whose numbers are in the list and whose names begin with the prefix, in the order of their names: all
+    /// of them, or the first ones, of which there are `most` or more. A number that no document has is left out. The cost
+    /// depends mainly on how many names begin with the prefix and are gone through until `most` documents are found or,
+    /// if the list is shorter than an eighth of the names in question, on the length of the list. If the list is longer than
+    /// `most`, it counts as shorter only below a 64th. All numbers of the list are gone through in any case.
     ///
     /// An `Err` means that memory ran out, or that a name or a body has too many handles.
     pub fn chosen_documents_under(
@@ -223,8 +227,9 @@ impl Index {
         alloc: Global,
         chosen: &posting::List,
         prefix: &[u8],
+        most: usize,
     ) -> Result<Vec<SharedDocument>, AllocError>
-        ensures { IfOk result (λ shared. IsInNameOrder (filter (is_chosen chosen.now.members prefix.now) self.now.documents)
+        ensures { IfOk result (λ shared. AreFirstInNameOrder most (filter (is_chosen chosen.now.members prefix.now) self.now.documents)
             (documents_shared shared.items)) }
     {
         let _ = &self.version;
@@ -232,11 +237,15 @@ impl Index {
             Some(first) => first,
             None => return Ok(Vec::new(alloc)),
         };
-        let most = chosen.len().saturating_mul(FEW);
-        if self.has_many_under(&first, prefix, most) {
-            self.few(alloc, chosen, prefix)
+        let few = if most < chosen.len() {
+            FEW_FOR_FIRST
         } else {
-            self.many(alloc, chosen, prefix, &first)
+            FEW
+        };
+        if self.has_many_under(&first, prefix, chosen.len().saturating_mul(few)) {
+            self.few(alloc, chosen, prefix, most)
+        } else {
+            self.many(alloc, chosen, prefix, &first, most)
         }
     }
 
@@ -256,20 +265,22 @@ impl Index {
         true
     }
 
-    /// The documents whose numbers are in the list and whose names begin with the prefix: each number is looked up, and
-    /// then the documents are sorted by name.
+    /// The documents whose numbers are in the list and whose names begin with the prefix, up to `most`: each number is
+    /// looked up, and then the documents are sorted by name.
     fn few(
         &self,
         alloc: Global,
         chosen: &posting::List,
         prefix: &[u8],
+        most: usize,
     ) -> Result<Vec<SharedDocument>, AllocError>
-        ensures { IfOk result (λ shared. IsInNameOrder (filter (is_chosen chosen.now.members prefix.now) self.now.documents)
+        ensures { IfOk result (λ shared. AreFirstInNameOrder most (filter (is_chosen chosen.now.members prefix.now) self.now.documents)
             (documents_shared shared.items)) }
     {
         let _ = &self.version;
         let mut shared = self.numbered(alloc, chosen, prefix)?;
         shared.sort_unstable_by(|one, other| one.name.cmp(&other.name));
+        shared.truncate(most);
         Ok(shared)
     }
 
@@ -293,23 +304,31 @@ impl Index {
     }
 
     /// The documents whose numbers are in the list and whose names begin with the prefix, found among all documents in the
-    /// order of their names, from `first` on.
+    /// order of their names, from `first` on, until there are `most`.
     fn many(
         &self,
         alloc: Global,
         chosen: &posting::List,
         prefix: &[u8],
         first: &Bound<Name>,
+        most: usize,
     ) -> Result<Vec<SharedDocument>, AllocError>
         requires { IsFirstUnder prefix.now first.now }
-        ensures { IfOk result (λ shared. IsInNameOrder (filter (is_chosen chosen.now.members prefix.now) self.now.documents)
+        ensures { IfOk result (λ shared. AreFirstInNameOrder most (filter (is_chosen chosen.now.members prefix.now) self.now.documents)
             (documents_shared shared.items)) }
     {
         let among = chosen.lookup(alloc)?;
         // most prefixes leave few of them
-        let room = if prefix.is_empty() { chosen.len() } else { 0 };
+        let room = if prefix.is_empty() {
+            most.min(chosen.len())
+        } else {
+            0
+        };
         let mut shared = Vec::with_capacity(alloc, room)?;
         for (name, number) in self.numbers.range((first.as_ref(), Bound::Unbounded)) {
+            if shared.len() >= most {
+                return Ok(shared);
+            }
             if !name.as_bytes().starts_with(prefix) {
                 return Ok(shared);
             }
@@ -349,7 +368,7 @@ fn first_under(alloc: Global, prefix: &[u8]) -> Result<Option<Bound<Name>>, Allo
     ensures some { IfOk result (λ found. IfSome found (IsFirstUnder prefix.now)) }
     ensures none { IfOk result (λ found. IfNone found ((name : List ℕ) → IsName name → begins_with prefix.now name ≡ false)) }
 {
-    match Name::new(alloc, prefix) {
+    match Name::within(alloc, prefix, MAX_NAME) {
         Ok(name) => Ok(Some(Bound::Included(name))),
         Err(NameError::Empty) => Ok(Some(Bound::Unbounded)),
         Err(NameError::TooLong) => Ok(None),

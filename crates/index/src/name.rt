@@ -1,18 +1,19 @@
 //! Names of documents.
 
 ghost use Rattle.std.specs.Prelude.{◌≡◌, IfOk, IfErr, IfSome, IfNone};
-ghost use Rattle.index.specs.Text.{IsName, IsNameFault, has_bad_byte};
+ghost use Rattle.index.specs.Text.{IsName, IsNameOf, IsNameFault, has_bad_byte, usual_lengths};
 
 use crate::error::NameError;
+use crate::lengths::USUAL_NAME;
 use std::alloc::{AllocError, Global};
 use std::cmp::Ordering;
 use std::marker::Model;
 use std::sync::ArcSlice;
 
-/// The greatest length of a name, in bytes (this program's choice).
-pub const MAX_NAME: usize = 255;
+/// The greatest length of any name, in bytes (this program's choice).
+pub const MAX_NAME: usize = 4_096;
 
-/// The name of a document: 1 to 255 bytes, each of 33 to 126 or 128 to 255 (this program's choice). A
+/// The name of a document: 1 to 4,096 bytes, each of 33 to 126 or 128 to 255 (this program's choice). A
 /// space would end a word of a script, and a control byte would spoil the lines that are printed.
 ///
 /// Contracts see it as its bytes. Names are compared byte by byte, as unsigned numbers.
@@ -87,13 +88,23 @@ impl Ord for Name {
 }
 
 impl Name {
-    /// Makes a name of a copy of these bytes. An `Err` is the first cause, in the order of `NameError`.
-    #[tactic(auto, unfolding(crate::specs::Text::IsNameFault))]
+    /// Makes a name of a copy of these bytes, if they are one of the usual length (`Lengths::usual`). An `Err` is as that
+    /// of `within`.
     pub fn new(alloc: Global, bytes: &[u8]) -> Result<Name, NameError>
-        ensures name { IfOk result (λ name. (name ≡ bytes.now) × IsName bytes.now) }
-        ensures fault { IfErr result (λ e. IsNameFault e bytes.now) }
+        ensures name { IfOk result (λ name. (name ≡ bytes.now) × IsNameOf usual_lengths.name bytes.now) }
+        ensures fault { IfErr result (λ e. IsNameFault usual_lengths.name e bytes.now) }
     {
-        if let Some(fault) = fault_of(bytes) {
+        Name::within(alloc, bytes, USUAL_NAME)
+    }
+
+    /// Makes a name of a copy of these bytes, if they are one of at most so many bytes. An `Err` is the first cause, in
+    /// the order of `NameError`.
+    #[tactic(auto, unfolding(crate::specs::Text::IsNameFault), using(crate::proofs::NameLemmas::name_of))]
+    pub fn within(alloc: Global, bytes: &[u8], most: usize) -> Result<Name, NameError>
+        ensures name { IfOk result (λ name. (name ≡ bytes.now) × IsNameOf most bytes.now) }
+        ensures fault { IfErr result (λ e. IsNameFault most e bytes.now) }
+    {
+        if let Some(fault) = fault_of(bytes, most) {
             return Err(fault);
         }
         match ArcSlice::from_slice(alloc, bytes) {
@@ -119,16 +130,16 @@ impl Name {
     }
 }
 
-/// Why the bytes are not a name.
+/// Why the bytes are not a name of at most so many bytes.
 #[tactic(auto, unfolding(crate::specs::Text::IsNameFault))]
-fn fault_of(bytes: &[u8]) -> Option<NameError>
-    ensures none { IfNone result (IsName bytes.now) }
-    ensures some { IfSome result (λ fault. IsNameFault fault bytes.now) }
+fn fault_of(bytes: &[u8], most: usize) -> Option<NameError>
+    ensures none { IfNone result (IsNameOf most bytes.now) }
+    ensures some { IfSome result (λ fault. IsNameFault most fault bytes.now) }
 {
     if bytes.is_empty() {
         return Some(NameError::Empty);
     }
-    if bytes.len() > MAX_NAME {
+    if bytes.len() > most.min(MAX_NAME) {
         return Some(NameError::TooLong);
     }
     if has_bad_byte(bytes) {

@@ -1,16 +1,14 @@
 -- Items that own their bytes.
-use Rattle.std.specs.Prelude.{◌≡◌, ℕ, ◌<◌, List, length}
-use Rattle.index.specs.declared.body.TheConstants.{MAX_BODY}
+use Rattle.std.specs.Prelude.{◌≡◌, ℕ, List, length}
 use Rattle.script.specs.Items.{Item, put, load, remove, publish, search, search_in, find, sync, cancel, status}
 use Rattle.script.specs.Items.{bad_line, bad_put, truncated, body_not_closed}
 use Rattle.input.specs.declared.owned.OwnedItem.{OwnedItem}
 use Rattle.input.specs.declared.owned.OwnedItem.TheVariants as variants
 
--- the item, without the place of its bytes in memory; a body that was passed over is only known to be too long, or is not known
+-- the item, without the place of its bytes in memory; of a body that was passed over only the length is known
 abbrev pub ShowsOwned : OwnedItem → Item → Type 0
 ShowsOwned (variants.Put name body) item = item ≡ put name.items body.items
-ShowsOwned (variants.LongPut name) item = (body : List ℕ) × (item ≡ put name.items body) × (MAX_BODY < length body)
-ShowsOwned (variants.LostPut name) item = (body : List ℕ) × (item ≡ put name.items body)
+ShowsOwned (variants.SkippedPut name size) item = (body : List ℕ) × (item ≡ put name.items body) × (length body ≡ size)
 ShowsOwned (variants.Load name path) item = item ≡ load name.items path.items
 ShowsOwned (variants.Remove name) item = item ≡ remove name.items
 ShowsOwned variants.Publish item = item ≡ publish

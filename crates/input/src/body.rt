@@ -2,11 +2,10 @@
 
 ghost use Rattle.std.specs.Prelude.{◌≡◌, ℕ, ◌+◌, ◌≤◌, ◌<◌, ◌^◌, List, length, IfSome};
 ghost use Rattle.std.specs.Io.KnownBytes.{Consumes};
-ghost use Rattle.input.specs.Private.Bytes.{Counts, Appends, Fills, PassesPiece, Passes, IsNextByte, Looks, IsClosing, Holds, IsPutBytes};
+ghost use Rattle.input.specs.Private.Bytes.{Counts, Appends, Fills, PassesPiece, Passes, IsNextByte, Looks, IsClosing, IsPutBytes};
 
 use crate::error::StreamError;
 use crate::line::{append, interrupted};
-use index::MAX_BODY;
 use script::line_feeds;
 use std::alloc::Global;
 use std::io::BufRead;
@@ -25,10 +24,8 @@ pub struct Passed {
 pub enum PutBody {
     /// All that were read.
     Kept(Vec<u8>),
-    /// Nothing: the size is over `MAX_BODY`.
-    Long,
-    /// Nothing: there was no memory for them.
-    Lost,
+    /// Nothing: they are more than are to be kept, or there was no memory for them.
+    Skipped,
 }
 
 /// A put's bytes: as many as its size says, or fewer if the input ends first.
@@ -258,18 +255,20 @@ fn read_body<I: BufRead>(
 }
 
 /// Passes over a put's bytes, of which nothing is kept.
-fn skip_body<I: BufRead>(input: &mut I, size: usize, body: PutBody) -> Result<PutBytes, StreamError>
-    requires { (bytes : List ℕ) → Holds body size bytes }
+fn skip_body<I: BufRead>(input: &mut I, size: usize) -> Result<PutBytes, StreamError>
     ensures { (bytes : List ℕ) × Consumes (I.remaining input.old) (I.remaining input.new) bytes
         × IsPutBytes size result bytes (I.remaining input.old) (I.remaining input.new) }
 {
     match pass_over(input, size) {
-        Ok(passed) => Ok(PutBytes { body, passed }),
+        Ok(passed) => Ok(PutBytes {
+            body: PutBody::Skipped,
+            passed,
+        }),
         Err(error) => Err(error),
     }
 }
 
-/// Takes a put's bytes: `size` of them, or fewer if the input ends first. They are kept if `size` is at most `MAX_BODY`
+/// Takes a put's bytes: `size` of them, or fewer if the input ends first. They are kept if `size` is at most `most_kept`
 /// and there is memory for that many. Interrupted reads are tried again.
 ///
 /// An `Err` is `CannotRead`: the input cannot be read. Room for the bytes is made before they are read, so memory does
@@ -278,15 +277,16 @@ pub fn take_bytes<I: BufRead>(
     alloc: Global,
     input: &mut I,
     size: usize,
+    most_kept: usize,
 ) -> Result<PutBytes, StreamError>
     ensures { (bytes : List ℕ) × Consumes (I.remaining input.old) (I.remaining input.new) bytes
         × IsPutBytes size result bytes (I.remaining input.old) (I.remaining input.new) }
 {
-    if size > MAX_BODY {
-        return skip_body(input, size, PutBody::Long);
+    if size > most_kept {
+        return skip_body(input, size);
     }
     match room_for(alloc, size) {
         Some(body) => read_body(input, size, body),
-        None => skip_body(input, size, PutBody::Lost),
+        None => skip_body(input, size),
     }
 }

@@ -35,8 +35,15 @@ impl<K: Naming, I: BufRead + Drop> Model for Feed<K, I> {
 }
 
 impl<K: Naming, I: BufRead + Drop> Feed<K, I> {
-    /// A feed at the first byte of an input, and with an empty history.
-    pub fn new(alloc: Global, book: Book<K>, read: Front<K>, input: I) -> Feed<K, I>
+    /// A feed at the first byte of an input, and with an empty history. The bytes of a put are kept if they are no more
+    /// than `most_kept`.
+    pub fn new(
+        alloc: Global,
+        book: Book<K>,
+        read: Front<K>,
+        input: I,
+        most_kept: usize,
+    ) -> Feed<K, I>
         requires read { read ≡ [] }
         requires input { I.remaining input ≡ K.input }
         ensures { result ≡ feed_state [] (stream_at 1 false) None (I.remaining input) }
@@ -44,7 +51,7 @@ impl<K: Naming, I: BufRead + Drop> Feed<K, I> {
         Feed {
             book,
             read,
-            stream: ItemStream::new(alloc),
+            stream: ItemStream::new(alloc, most_kept),
             failed: None,
             input,
         }

@@ -18,13 +18,11 @@ pub enum OwnedItem {
         name: Vec<u8>,
         body: Vec<u8>,
     },
-    /// A put whose bytes were not kept, since they are more than `index::MAX_BODY`.
-    LongPut {
+    /// A put of so many bytes, which were not kept, since they are more than are to be kept, or there was no memory for
+    /// them.
+    SkippedPut {
         name: Vec<u8>,
-    },
-    /// A put whose bytes were not kept, since there was no memory for them.
-    LostPut {
-        name: Vec<u8>,
+        size: usize,
     },
     Load {
         name: Vec<u8>,

@@ -28,6 +28,8 @@ pub struct ItemStream {
     alloc: Global,
     line: u32,
     ended: bool,
+    /// How many bytes of a put are kept at most.
+    most_kept: usize,
     /// The line that was read last.
     text: Vec<u8>,
 }
@@ -41,14 +43,16 @@ impl Model for ItemStream {
 }
 
 impl ItemStream {
-    /// A stream at the first byte of an input. The first line has the number 1. `alloc` is for the lines and the items.
-    pub fn new(alloc: Global) -> ItemStream
+    /// A stream at the first byte of an input. The first line has the number 1. `alloc` is for the lines and the items. The
+    /// bytes of a put are kept if they are no more than `most_kept`, and otherwise skipped.
+    pub fn new(alloc: Global, most_kept: usize) -> ItemStream
         ensures { result ≡ stream_at 1 false }
     {
         ItemStream {
             alloc,
             line: 1,
             ended: false,
+            most_kept,
             text: Vec::new(alloc),
         }
     }
@@ -90,7 +94,13 @@ impl ItemStream {
                 Err(error) => Err(error),
             };
         }
-        match take_item(self.alloc, input, line, self.text.as_slice()) {
+        match take_item(
+            self.alloc,
+            input,
+            self.most_kept,
+            line,
+            self.text.as_slice(),
+        ) {
             Ok(Step { item, next }) => {
                 self.go_on(next);
                 Ok(Some(ReadItem { line, item }))
@@ -144,6 +154,7 @@ struct Step {
 fn take_item<I: BufRead>(
     alloc: Global,
     input: &mut I,
+    most_kept: usize,
     number: u32,
     line: &[u8],
 ) -> Result<Step, StreamError>
@@ -154,7 +165,7 @@ fn take_item<I: BufRead>(
 {
     match read_line(line) {
         Line::Blank => unreachable!(),
-        Line::Put { name, size } => take_put(alloc, input, number, name, size),
+        Line::Put { name, size } => take_put(alloc, input, most_kept, number, name, size),
         Line::BadPut => Ok(Step {
             item: OwnedItem::BadPut,
             next: None,
@@ -193,6 +204,7 @@ fn number_after(number: u32, lines: usize) -> Option<u32>
 fn take_put<I: BufRead>(
     alloc: Global,
     input: &mut I,
+    most_kept: usize,
     number: u32,
     name: &[u8],
     size: usize,
@@ -200,7 +212,7 @@ fn take_put<I: BufRead>(
     ensures { (bytes : List ℕ) × Consumes (I.remaining input.old) (I.remaining input.new) bytes
         × ((line : List ℕ) → IsPutLine line name.now size → TakesItem number line result bytes (I.remaining input.old) (I.remaining input.new)) }
 {
-    let put = take_bytes(alloc, input, size)?;
+    let put = take_bytes(alloc, input, size, most_kept)?;
     if put.passed.count < size {
         return Ok(Step {
             item: OwnedItem::Truncated,
@@ -211,12 +223,12 @@ fn take_put<I: BufRead>(
     match closing {
         Closing::LineFeed => {
             let lines = put.passed.line_feeds.saturating_add(2);
-            match put_item(alloc, name, put.body) {
+            match put_item(alloc, name, size, put.body) {
                 Ok(item) => go_on_after(item, number, lines),
                 Err(error) => Err(error),
             }
         }
-        Closing::InputEnd => match put_item(alloc, name, put.body) {
+        Closing::InputEnd => match put_item(alloc, name, size, put.body) {
             Ok(item) => Ok(Step { item, next: None }),
             Err(error) => Err(error),
         },
@@ -227,14 +239,18 @@ fn take_put<I: BufRead>(
     }
 }
 
-/// A put of this name. `OutOfMemory` if there is no memory for the name.
-fn put_item(alloc: Global, name: &[u8], body: PutBody) -> Result<OwnedItem, StreamError>
-    ensures { IfOk result (λ item. (size : ℕ) (bytes : List ℕ) → Holds body size bytes → length bytes ≡ size → ShowsOwned item (put name.now bytes)) }
+/// A put of this name and of so many bytes. `OutOfMemory` if there is no memory for the name.
+fn put_item(
+    alloc: Global,
+    name: &[u8],
+    size: usize,
+    body: PutBody,
+) -> Result<OwnedItem, StreamError>
+    ensures { IfOk result (λ item. (bytes : List ℕ) → Holds body bytes → length bytes ≡ size → ShowsOwned item (put name.now bytes)) }
 {
     let name = copy_of(alloc, name)?;
     match body {
         PutBody::Kept(body) => Ok(OwnedItem::Put { name, body }),
-        PutBody::Long => Ok(OwnedItem::LongPut { name }),
-        PutBody::Lost => Ok(OwnedItem::LostPut { name }),
+        PutBody::Skipped => Ok(OwnedItem::SkippedPut { name, size }),
     }
 }

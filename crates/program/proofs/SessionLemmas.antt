@@ -29,11 +29,11 @@ served_from options Holds failed failed' known whole old new status same served 
 module _ (opens : List ℕ → Option (List ℕ) → Type 0) (has_file : List ℕ → Type 0) (input : Option (List ℕ)) (failed failed' : ℕ)
     (old new : Option (List ℕ)) where
   pub broken_from : (settings : Settings) (known whole : Option (List ℕ)) (e : ProgramError) → known ≡ whole → IsFaultOfSession e
-      → IsBroken (live_options_of settings) (IsLoadFrom opens has_file) failed failed' known old new
+      → IsBroken (live_options_of settings) (IsLoadFrom opens has_file settings.max_body) failed failed' known old new
       → EndsOver opens has_file failed failed' old new whole settings e
   broken_from settings known whole e same fault is =
       broken fault
-      (subst (λ (bytes : Option (List ℕ)). IsBroken (live_options_of settings) (IsLoadFrom opens has_file) failed failed' bytes old new) same is)
+      (subst (λ (bytes : Option (List ℕ)). IsBroken (live_options_of settings) (IsLoadFrom opens has_file settings.max_body) failed failed' bytes old new) same is)
 
   pub session_ended : (settings : Settings) (all : Option (List ℕ)) (result : Result ℕ ProgramError) → IsInputFrom opens input settings.file all
       → IfErr result (EndsOver opens has_file failed failed' old new all settings)

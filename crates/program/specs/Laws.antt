@@ -11,4 +11,4 @@ module _ (opens : List ℕ → Option (List ℕ) → Type 0) where
 
   -- Nothing is loaded from a path where no regular file was seen.
   abbrev pub LoadsAreOfFiles : (List ℕ → Type 0) → Type 0
-  LoadsAreOfFiles has_file = (path bytes : List ℕ) → (has_file path → ⊥) → IsLoadFrom opens has_file path bytes → ⊥
+  LoadsAreOfFiles has_file = (most : ℕ) (path bytes : List ℕ) → (has_file path → ⊥) → IsLoadFrom opens has_file most path bytes → ⊥

@@ -2,7 +2,6 @@
 use Rattle.std.specs.Prelude.{◌≡◌, ◌+◌, ℕ, List, take, Option, Some, None, IfSome}
 use Rattle.std.specs.Borrow.{Bor}
 use Rattle.std.specs.Str.{IsUtf8}
-use Rattle.index.specs.declared.body.TheConstants.{MAX_BODY}
 use Rattle.script.specs.declared.line.TheConstants.{MAX_SCRIPT}
 
 -- The bytes are those of the file at the path, or the first `most` of them. If the bytes of the file are not known, nothing
@@ -24,8 +23,8 @@ IsInputFrom opens input (Some path) all = opens path.now all
 IsInputFrom opens input None all = all ≡ input
 
 -- A load takes the file at its path, which is UTF-8, and at which a regular file was seen. At most one byte more than a
--- body may have is read.
-pub record IsLoadFrom (opens : List ℕ → Option (List ℕ) → Type 0) (has_file : List ℕ → Type 0) (path bytes : List ℕ) : Type 0 where
+-- body may have, which is `most`, is read.
+pub record IsLoadFrom (opens : List ℕ → Option (List ℕ) → Type 0) (has_file : List ℕ → Type 0) (most : ℕ) (path bytes : List ℕ) : Type 0 where
   pub text : IsUtf8 path
   pub regular : has_file path
-  pub read : IsReadFrom opens path (MAX_BODY + 1) bytes
+  pub read : IsReadFrom opens path (most + 1) bytes

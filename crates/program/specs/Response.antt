@@ -5,6 +5,7 @@ use Rattle.cli.specs.CommandLine.{AskForHelp, AskForVersion, IsRefusalOf, SpellS
 use Rattle.cli.specs.declared.arguments.Settings.{Settings}
 use Rattle.cli.specs.declared.error.ArgumentError.{ArgumentError}
 use Rattle.cli.specs.declared.help.TheConstants.{HELP, VERSION}
+use Rattle.index.specs.declared.lengths.Lengths.{Lengths}
 use Rattle.tsearch.specs.Served.{IsBroken, IsServed}
 use Rattle.tsearch.specs.declared.serving.LiveOptions.{LiveOptions}
 use Rattle.tsearch.specs.Legal.{IsLegal}
@@ -16,13 +17,23 @@ use Rattle.program.specs.Reads.{IsInputFrom, IsLoadFrom, IsScriptFrom}
 use Rattle.program.specs.declared.error.ProgramError.{ProgramError}
 use Rattle.program.specs.declared.error.ProgramError.TheVariants as error
 
+-- how long names, bodies and lines may be, as the settings say
+abbrev pub lengths_of : Settings → Lengths
+lengths_of settings = record { name = settings.max_name; body = settings.max_body; line = settings.max_line }
+
 abbrev pub options_of : Settings → Options
-options_of settings = record { readers = settings.readers; max_commands = settings.max_commands; search_ms = settings.search_ms }
+options_of settings = record {
+  readers = settings.readers;
+  max_commands = settings.max_commands;
+  lengths = lengths_of settings;
+  search_ms = settings.search_ms;
+}
 
 abbrev pub live_options_of : Settings → LiveOptions
 live_options_of settings = record {
   readers = settings.readers;
   max_commands = settings.max_commands;
+  lengths = lengths_of settings;
   search_ms = settings.search_ms;
   stats = settings.stats;
 }
@@ -60,7 +71,7 @@ IsFaultOfSession e = IsFaultOfInput e
 pub data EndsOver (opens : List ℕ → Option (List ℕ) → Type 0) (has_file : List ℕ → Type 0) (failed failed' : ℕ) (old new : Option (List ℕ))
     (all : Option (List ℕ)) (settings : Settings) (e : ProgramError) : Type 0 where
   not_begun : IsFaultOfInput e → Appends old new [] → EndsOver opens has_file failed failed' old new all settings e
-  broken : IsFaultOfSession e → IsBroken (live_options_of settings) (IsLoadFrom opens has_file) failed failed' all old new
+  broken : IsFaultOfSession e → IsBroken (live_options_of settings) (IsLoadFrom opens has_file settings.max_body) failed failed' all old new
       → EndsOver opens has_file failed failed' old new all settings e
 
 -- opens: the bytes of the files. has_file: where regular files were seen. input: what standard input has left. failed,
@@ -73,7 +84,7 @@ module _ (opens : List ℕ → Option (List ℕ) → Type 0) (has_file : List �
     pub script : List ℕ
     pub entries : List Entry
     pub is_script : IsScriptFrom opens input settings.file script
-    pub legal : IsLegal script (options_of settings) (IsLoadFrom opens has_file) failed failed' entries
+    pub legal : IsLegal script (options_of settings) (IsLoadFrom opens has_file settings.max_body) failed failed' entries
     pub written : Appends old new (text_of_transcript settings.stats entries)
     pub is_status : status ≡ status_of entries
 
@@ -81,7 +92,7 @@ module _ (opens : List ℕ → Option (List ℕ) → Type 0) (has_file : List �
   pub record IsSessionOf (settings : Settings) (status : ℕ) : Type 0 where
     pub all : Option (List ℕ)
     pub is_input : IsInputFrom opens input settings.file all
-    pub served : IsServed (live_options_of settings) (IsLoadFrom opens has_file) failed failed' all old new status
+    pub served : IsServed (live_options_of settings) (IsLoadFrom opens has_file settings.max_body) failed failed' all old new status
 
   -- What arguments lead to: those that spell settings to their run, or to their session if they ask for one, those that ask
   -- for the help to the help and 0, and those that ask for the version to the version and 0.
@@ -95,7 +106,7 @@ module _ (opens : List ℕ → Option (List ℕ) → Type 0) (has_file : List �
   pub data EndsRun (settings : Settings) (e : ProgramError) : Type 0 where
     not_run : IsFaultOfRun e → Appends old new [] → EndsRun settings e
     not_written : (script : List ℕ) (entries : List Entry) → IsFaultOfText e → IsScriptFrom opens input settings.file script
-        → IsLegal script (options_of settings) (IsLoadFrom opens has_file) failed failed' entries
+        → IsLegal script (options_of settings) (IsLoadFrom opens has_file settings.max_body) failed failed' entries
         → AppendsFront old new (text_of_transcript settings.stats entries) → EndsRun settings e
 
   -- A session that ends with an error: its file was not opened, and nothing was written, or it ended over its input.

@@ -6,7 +6,6 @@ ghost use Rattle.std.specs.Str.{IsUtf8};
 ghost use Rattle.program.specs.Reads.{IsLoadFrom, IsReadFrom};
 
 use crate::disk::{Disk, read_path};
-use index::MAX_BODY;
 use std::alloc::Global;
 use std::io::{self, ErrorKind};
 use tsearch::{Fault, Source};
@@ -16,47 +15,58 @@ use tsearch::{Fault, Source};
 pub struct FileSource<'a, D> {
     /// Where the files are.
     pub disk: &'a D,
+    /// How long a body may be, in bytes. Of a longer file only one byte more is read.
+    pub most_bytes: u32,
     failures: u64,
 }
 
 impl<'a, D: Disk> FileSource<'a, D> {
-    /// The files of a disk, with no failures yet.
+    /// The files of a disk, with no failures yet, and for bodies with no bytes as long as nothing else is asked for.
     pub fn new(disk: &'a D) -> FileSource<'a, D>
         ensures disk { result.disk ≡ disk.entry }
         ensures failures { result.failures ≡ 0 }
     {
-        FileSource { disk, failures: 0 }
+        FileSource {
+            disk,
+            most_bytes: 0,
+            failures: 0,
+        }
     }
 
-    /// Reads a regular file. If it is longer than a body can be (`MAX_BODY` bytes), only one byte more than that is
-    /// read.
+    /// Reads a regular file. If it is longer than a body may be, only one byte more than that is read.
     ///
     /// `OutOfMemory` means that memory ran out, and `Failed` that the path is not UTF-8, that something else than a
     /// regular file is there, which is then not opened, or that the file cannot be opened or read.
     fn read_file(&self, alloc: Global, path: &[u8]) -> Result<Vec<u8>, Fault>
-        ensures bytes { IfOk result (λ bytes. IsLoadFrom (D.opens self.now.disk.now) (D.has_file self.now.disk.now) path.now bytes.items) }
+        ensures bytes { IfOk result (λ bytes. IsLoadFrom (D.opens self.now.disk.now) (D.has_file self.now.disk.now)
+            self.now.most_bytes path.now bytes.items) }
         ensures no_text { ¬ IsUtf8 path.now → IsErrOf result Fault.Failed }
     {
         let Ok(path) = str::from_utf8(path) else {
             return Err(Fault::Failed);
         };
-        match read_regular(alloc, self.disk, path) {
+        match read_regular(alloc, self.disk, self.most_bytes, path) {
             Ok(bytes) => Ok(bytes),
             Err(fault) => Err(fault),
         }
     }
 }
 
-/// Reads the file at the path, at most one byte more than a body can have, if a regular file is there.
-fn read_regular<D: Disk>(alloc: Global, disk: &D, path: &str) -> Result<Vec<u8>, Fault>
-    ensures { IfOk result (λ bytes. D.has_file disk.now path.now × IsReadFrom (D.opens disk.now) path.now (MAX_BODY + 1) bytes.items) }
+/// Reads the file at the path, at most one byte more than a body may have, if a regular file is there.
+fn read_regular<D: Disk>(
+    alloc: Global,
+    disk: &D,
+    most_bytes: u32,
+    path: &str,
+) -> Result<Vec<u8>, Fault>
+    ensures { IfOk result (λ bytes. D.has_file disk.now path.now × IsReadFrom (D.opens disk.now) path.now (most_bytes + 1) bytes.items) }
 {
     let len = match disk.file_len(path) {
         Ok(Some(len)) => len,
         Ok(None) => return Err(Fault::Failed),
         Err(error) => return Err(fault_of_load(&error)),
     };
-    let most = MAX_BODY as u64 + 1;
+    let most = most_bytes as u64 + 1;
     // One byte more, by which the end of the file is met.
     let room = len.min(most).saturating_add(1) as usize;
     match read_path(alloc, disk, path, room, most) {
@@ -92,7 +102,7 @@ fn failures_after(failures: u64, read: &Result<Vec<u8>, Fault>) -> u64
 }
 
 impl<D: Disk> Source for FileSource<'_, D> {
-    ghost holds = { λ source path bytes. IsLoadFrom (D.opens source.disk.now) (D.has_file source.disk.now) path bytes };
+    ghost holds = { λ source path bytes. IsLoadFrom (D.opens source.disk.now) (D.has_file source.disk.now) source.most_bytes path bytes };
 
     ghost failed = { λ source. source.failures };
 

@@ -2,7 +2,7 @@
 
 ghost use Rattle.std.specs.Prelude.{◌≡◌, IfOk, IfErr, IfSome, IfNone, IsSome, map, string_bytes};
 ghost use Rattle.cli.specs.CommandLine.{AreRefused, IsInLimits};
-ghost use Rattle.program.specs.Response.{EndsRun, IsFailure, IsResponse, IsRunOf};
+ghost use Rattle.program.specs.Response.{EndsRun, IsFailure, IsResponse, IsRunOf, lengths_of};
 
 use crate::disk::Disk;
 use crate::error::ProgramError;
@@ -11,6 +11,7 @@ use crate::output::{show, write_text};
 use crate::read::read_script;
 use crate::session::serve_session;
 use cli::{HELP, Request, Settings, VERSION, read_arguments};
+use index::Lengths;
 use std::alloc::Global;
 use std::io::{Read, Write};
 use std::sync::Wait;
@@ -119,6 +120,17 @@ impl Gate for Open {
     fn turn(&self, _search: u32, _point: Point) {}
 }
 
+/// How long names, bodies and lines may be, as the settings say.
+pub(crate) fn lengths_of(settings: &Settings<'_>) -> Lengths
+    ensures { result ≡ lengths_of settings.now }
+{
+    Lengths {
+        name: settings.max_name as usize,
+        body: settings.max_body as usize,
+        line: settings.max_line as usize,
+    }
+}
+
 /// Reads the script, runs it and writes its transcript, and returns the status of the run.
 #[tactic(auto, using(crate::proofs::OutputLemmas::nothing_written))]
 fn run_script<R: Threads + Wait + Clock + Sync, D: Disk, I: Read + Drop, O: Write>(
@@ -139,9 +151,11 @@ fn run_script<R: Threads + Wait + Clock + Sync, D: Disk, I: Read + Drop, O: Writ
         Ok(script) => script,
         Err(error) => return Err(error),
     };
+    source.most_bytes = settings.max_body;
     let options = Options {
         readers: settings.readers,
         max_commands: settings.max_commands,
+        lengths: lengths_of(settings),
         search_ms: settings.search_ms,
     };
     let transcript = match run(rt, alloc, &script, options, source, &Open) {

@@ -10,7 +10,7 @@ use crate::disk::Disk;
 use crate::error::ProgramError;
 use crate::files::FileSource;
 use crate::read::{Noted, fault_of_script};
-use crate::response::Open;
+use crate::response::{Open, lengths_of};
 use cli::Settings;
 use std::alloc::Global;
 use std::io::{self, BufReader, Read, Write};
@@ -75,7 +75,7 @@ fn serve_reader<
 ) -> Result<u8, ProgramError>
     requires limits { IsInLimits settings.now }
     ensures served { IfOk result (IsServed (live_options_of settings.now)
-        (IsLoadFrom (D.opens source.old.disk.now) (D.has_file source.old.disk.now)) source.old.failures source.new.failures
+        (IsLoadFrom (D.opens source.old.disk.now) (D.has_file source.old.disk.now) settings.now.max_body) source.old.failures source.new.failures
         (I.remaining input) (O.contents out.old) (O.contents out.new)) }
     ensures failed { IfErr result (EndsOver (D.opens source.old.disk.now) (D.has_file source.old.disk.now)
         source.old.failures source.new.failures (O.contents out.old) (O.contents out.new) (I.remaining input) settings.now) }
@@ -87,9 +87,11 @@ fn serve_reader<
         Ok(reader) => reader,
         Err(_) => return Err(ProgramError::OutOfMemory),
     };
+    source.most_bytes = settings.max_body;
     let options = LiveOptions {
         readers: settings.readers,
         max_commands: settings.max_commands,
+        lengths: lengths_of(settings),
         search_ms: settings.search_ms,
         stats: settings.stats,
     };

@@ -19,4 +19,5 @@ mod GathersLemmas
 mod JoinLemmas
 mod FitLemmas
 mod AnswerLemmas
+mod FirstLemmas
 mod OneAnswer

@@ -4,6 +4,7 @@ use Rattle.std.proofs.Common.{slice_index, refl, sym, ◌∙◌, ap, subst, arit
 use Rattle.std.specs.List.{list_any}
 use Rattle.std.proofs.lemmas.List.{append-nil}
 use Rattle.std.proofs.lemmas.Bool.{false≢true, true≢false}
+use Rattle.engine.proofs.LineLemmas.{NoFeed}
 use Rattle.index.specs.Text.{IsName, is_name_byte}
 use Rattle.index.specs.declared.document.SharedDocument.{SharedDocument}
 use Rattle.search.specs.Selects.{Selects, done, keep, skip}
@@ -23,6 +24,18 @@ no_bad_feed (b ∷ bytes) good k low = go (is_name_byte b) refl good (no_bad_fee
 
 pub no_feed_in_name : (bytes : List ℕ) → IsName bytes → (k : ℕ) → k < length bytes → slice_index bytes k ≢ 10
 no_feed_in_name bytes is = no_bad_feed bytes is.printable
+
+feedless_bytes : (bytes : List ℕ) → list_any (λ b. not (is_name_byte b)) bytes ≡ false → NoFeed bytes
+feedless_bytes [] good = tt
+feedless_bytes (b ∷ bytes) good = go (is_name_byte b) refl good (feedless_bytes bytes)
+  where
+    go : (t : Bool) → is_name_byte b ≡ t → (not t || list_any (λ b. not (is_name_byte b)) bytes) ≡ false
+        → (list_any (λ b. not (is_name_byte b)) bytes ≡ false → NoFeed bytes) → NoFeed (b ∷ bytes)
+    go false is bad deeper = absurd (true≢false bad)
+    go true is rest deeper = (λ feed. false≢true (ap is_name_byte (sym feed) ∙ is), deeper rest)
+
+pub feedless : (bytes : List ℕ) → IsName bytes → NoFeed bytes
+feedless bytes is = feedless_bytes bytes is.printable
 
 -- ---- documents that are kept
 

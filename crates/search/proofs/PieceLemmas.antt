@@ -1,13 +1,10 @@
 -- From one piece of a body to the next.
-use Rattle.std.proofs.Common.{◌≡◌, ◌≢◌, ◌==◌, ℕ, zero, suc, ◌+◌, ◌-◌, ◌<◌, ◌≤◌, ◌||◌, slice_index, Bool, true, false, nat_lt, List, [], ◌∷◌, ◌++◌, length, take, drop, refl, sym, ◌∙◌, ap, subst, arith}
-use Rattle.std.specs.List.{list_any}
-use Rattle.std.proofs.lemmas.Bool.{false≢true}
-use Rattle.std.proofs.lemmas.Bool.Decides.{nat_tests}
-use Rattle.std.proofs.lemmas.List.{length-take, length-drop, take_all, take-append-drop}
-use Rattle.std.proofs.lemmas.List.Folds.{list_any-append}
-use Rattle.lines.specs.Lines.{lines_of, with_byte_in_front}
-use Rattle.index.specs.Text.{has_long_line}
-use Rattle.engine.specs.FirstLine.{IsWholeLines, HasNoFeed, IsLineStart}
+use Rattle.std.proofs.Common.{◌≡◌, ℕ, zero, suc, ◌+◌, ◌-◌, ◌<◌, ◌≤◌, inl, inr, slice_index, List, [], ◌∷◌, ◌++◌, length, take, drop, refl, sym, ◌∙◌, ap, arith, add-one}
+use Rattle.std.proofs.lemmas.Bool.{cases_lt}
+use Rattle.std.proofs.lemmas.List.{length-take, length-drop, take_all, take-append-drop, get_or-drop}
+use Rattle.std.proofs.Math.Seq.{take-suc}
+use Rattle.lines.specs.Lines.{lines_of}
+use Rattle.engine.specs.FirstLine.{EndsLine, IsWholeLines, HasNoFeed, IsLineEnd}
 use Rattle.engine.proofs.LineLemmas.{lines-append}
 use Rattle.engine.proofs.CutLemmas.{lines_few}
 use Rattle.search.specs.Private.Pieces.{IsPiece, greatest_piece}
@@ -29,9 +26,6 @@ numbered-append name line (x ∷ xs) ys =
     ap (λ ls. found name line x ∷ ls)
     (numbered-append name (suc line) xs ys ∙ ap (λ n. numbered name (suc line) xs ++ numbered name n ys) moved)
 
-abbrev long : List ℕ → Bool
-long line = nat_lt 16384 (length line)
-
 module _ (text : List ℕ) (end : ℕ) (whole_lines : IsWholeLines (take end text)) where
   lines_cut : lines_of text ≡ lines_of (take end text) ++ lines_of (rest_of text end)
   lines_cut =
@@ -39,54 +33,36 @@ module _ (text : List ℕ) (end : ℕ) (whole_lines : IsWholeLines (take end tex
       ∙ (lines-append (drop end text) (take end text) [] tt whole_lines
       ∙ ap (λ t. lines_of (take end text) ++ lines_of t) (sym (rest_is text end)))
 
-  long_cut : has_long_line text ≡ (has_long_line (take end text) || has_long_line (rest_of text end))
-  long_cut = ap (λ lines. list_any long lines) lines_cut ∙ list_any-append long (lines_of (take end text)) (lines_of (rest_of text end))
+-- ---- the first piece of a text
 
-  neither : (a b : Bool) → (a || b) ≡ false → (a ≡ false) × (b ≡ false)
-  neither true b e = absurd (false≢true (sym e))
-  neither false b e = (refl, e)
+-- no line ends within so many bytes, nor up to where the line of the next one ends
+none_before : (text : List ℕ) (end : ℕ) → HasNoFeed text 0 greatest_piece → IsLineEnd text greatest_piece end → HasNoFeed text 0 end
+none_before text end none is k low below = elim (cases_lt k greatest_piece) [ inl first ↦ none k low first | inr later ↦ is.no_feed k later below ]
 
-  pub short_pieces : has_long_line text ≡ false → (has_long_line (take end text) ≡ false) × (has_long_line (rest_of text end) ≡ false)
-  short_pieces short = neither (has_long_line (take end text)) (has_long_line (rest_of text end)) (sym long_cut ∙ short)
-
--- ---- a text whose first line feed is far away has a long line
-
-abbrev first_line : List (List ℕ) → List ℕ
-first_line [] = []
-first_line (line ∷ lines) = line
-
-first_line_long : (text : List ℕ) (n : ℕ) → n ≤ length text → ((k : ℕ) → k < n → slice_index text k ≢ 10) → n ≤ length (first_line (lines_of text))
-unfolding lines_of
-first_line_long text zero low none = omega arith
-first_line_long [] (suc n) low none = absurd (omega arith)
-first_line_long (b ∷ text) (suc n) low none =
-    let other : (b == 10) ≡ false = let differ : b ≢ 10 = none 0 (omega arith) in grind (arith, nat_tests) in
-    rw other (front (lines_of text) (first_line_long text n (omega arith) (λ k h. none (suc k) (omega arith))))
-  where
-    front : (lines : List (List ℕ)) → n ≤ length (first_line lines) → suc n ≤ length (first_line (with_byte_in_front b lines))
-    front [] h = omega (arith, h)
-    front (line ∷ lines) h = omega (arith, h)
-
-long_by_first : (lines : List (List ℕ)) → 16384 < length (first_line lines) → list_any long lines ≡ true
-long_by_first [] h = absurd (omega (arith, h))
-long_by_first (line ∷ lines) h = let is : nat_lt 16384 (length line) ≡ true = grind (arith, nat_tests) in rw is refl
-
-feedless_is_long : (text : List ℕ) (n : ℕ) → 16384 < n → n ≤ length text → HasNoFeed text 0 n → has_long_line text ≡ true
-feedless_is_long text n high low none =
-    long_by_first (lines_of text) (omega (arith, high, first_line_long text n low (λ k h. none k (omega arith) h)))
-
--- no line ends within the bytes of a piece
-pub whole_piece : (text : List ℕ) (start : ℕ) → IsLineStart text greatest_piece start → start ≡ 0 → greatest_piece < length text
-    → IsPiece text (length text)
-whole_piece text start is none high = record {
+-- the first line has no line feed
+pub line_at_end : (text : List ℕ) → HasNoFeed text 0 greatest_piece → IsLineEnd text greatest_piece (length text) → IsPiece text (length text)
+line_at_end text none is = record {
   inside = omega arith;
   some = λ h. h;
   whole_lines = λ h. absurd (omega (arith, h));
-  short =
-      λ s.
-      absurd (false≢true (sym s ∙ feedless_is_long text greatest_piece (omega arith) (omega (arith, high))
-      (subst (λ n. HasNoFeed text n greatest_piece) none is.no_feed)));
+  few = λ _ k low below. none_before text (length text) none is k low (omega arith);
 }
+
+-- the first line has a line feed
+pub line_with_feed : (text : List ℕ) (end : ℕ) → HasNoFeed text 0 greatest_piece → IsLineEnd text greatest_piece end → end < length text
+    → IsPiece text (end + 1)
+line_with_feed text end none is inside = record {
+  inside = omega arith;
+  some = λ _. omega arith;
+  whole_lines = λ _. inr (take end text, ap (λ n. take n text) (add-one end) ∙ (take-suc text end 0 inside ∙ ap (λ b. take end text ++ b ∷ []) (feed is.line_ends)));
+  few = λ _ k low below. none_before text end none is k low (omega arith);
+}
+  where
+    feed : EndsLine (drop end text) → slice_index text end ≡ 10
+    feed (inl none_left) = absurd (omega (arith, inside, ap length none_left, length-drop end text))
+    feed (inr (back, e)) =
+        let same : end + 0 ≡ end = omega arith in
+        ap (slice_index text) (sym same) ∙ (sym (get_or-drop end text 0 0) ∙ ap (λ t. slice_index t 0) e)
 
 -- ---- the next piece
 

@@ -25,7 +25,7 @@ use Rattle.search.proofs.SelectsLemmas.{Selects-append}
 abbrev pub Selection : Test → List Hit → Type 0
 Selection test lines = (hits : List Hit) × Selects (IsAsked test) lines hits
 
-passes_or_not : (test : Test) (text : List ℕ) → NoFeed text → Passes test text ⊎ (Passes test text → ⊥)
+pub passes_or_not : (test : Test) (text : List ℕ) → NoFeed text → Passes test text ⊎ (Passes test text → ⊥)
 passes_or_not test text none = go test.inverted (decides test.tree text none)
   where
     go : (inverted : Bool) → ContainsMatch test.tree text ⊎ (ContainsMatch test.tree text → ⊥)

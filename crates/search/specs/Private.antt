@@ -2,6 +2,7 @@
 pub mod Ways
 pub mod Seekers
 pub mod Documents
+pub mod Parts
 pub mod Added
 pub mod Pieces
 pub mod Rows

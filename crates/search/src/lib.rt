@@ -4,6 +4,7 @@
 #![tactic(auto)]
 
 mod ahead;
+mod first;
 mod gathered;
 mod laws;
 mod matching;
@@ -18,6 +19,7 @@ mod unanswered;
 mod watch;
 mod way;
 
+pub use first::{First, FirstPart, take_first};
 pub use laws::{answers_follow_commands, one_answer, one_shown};
 pub use scan::find;
 pub use taken::{Taken, take};

@@ -1,8 +1,8 @@
 //! The lines of documents that pass a test.
 
-ghost use Rattle.std.specs.Prelude.{◌≡◌, ◌≢◌, ◌<◌, ◌≤◌, ◌+◌, ℕ, List, false, [], ◌∷◌, length, slice_index, IfOk, IfErr, OnOk, All, MatchBool};
+ghost use Rattle.std.specs.Prelude.{◌≡◌, ◌≢◌, ◌<◌, ◌≤◌, ◌+◌, ℕ, List, [], ◌∷◌, length, slice_index, IfOk, IfErr, OnOk, All, MatchBool};
 ghost use Rattle.ere.specs.Tree.{Tree, form};
-ghost use Rattle.index.specs.Text.{greatest_body, has_long_line};
+ghost use Rattle.index.specs.Text.{greatest_body};
 ghost use Rattle.engine.specs.Patterns.{IsFinderOf};
 ghost use Rattle.search.specs.CalledOff.{IsCalledOffOnlyIf};
 ghost use Rattle.prepare.specs.Pattern.{with_match};
@@ -20,7 +20,6 @@ use crate::watch::{Watch, ask};
 use crate::way::{Way, passes};
 use engine::{Finder, lines_before};
 use index::{Body, SharedDocument};
-use lines::MAX_LINE;
 use matcher::is_quick;
 use memchr::memchr;
 use prepare::Test;
@@ -83,7 +82,6 @@ pub(crate) fn scan_document<W: Watch>(
 ) -> Result<(), Unanswered>
     requires way { Finds (form test.now.tree) way.old }
     ensures way { Finds (form test.now.tree) way.new }
-    ensures short { OnOk result (has_long_line document.now.held ≡ false) }
     ensures hits { OnOk result (AddsUpTo most (IsAsked (test_of test.now)) (lines_of_taken document.now) hits.old hits.new) }
     ensures called_off { IfErr result (IsCalledOffOnlyIf (W.has_said_no watch.new)) }
 {
@@ -119,7 +117,6 @@ fn add_document<W: Watch>(
     requires way { Finds (form test.now.tree) way.old }
     requires placed { All (IsPlaced documents.old.items) places.old.items }
     ensures way { Finds (form test.now.tree) way.new }
-    ensures short { OnOk result (has_long_line document.now.held ≡ false) }
     ensures placed { OnOk result (All (IsPlaced documents.new.items) places.new.items) }
     ensures hits { OnOk result (AddsUpTo most (IsAsked (test_of test.now)) (lines_of_taken document.now)
         (hits_at documents.old.items places.old.items) (hits_at documents.new.items places.new.items)) }
@@ -149,7 +146,6 @@ fn scan_body<W: Watch>(
 ) -> Result<(), Unanswered>
     requires way { Finds (form test.now.tree) way.old }
     ensures way { Finds (form test.now.tree) way.new }
-    ensures short { OnOk result (has_long_line body.now ≡ false) }
     ensures places { OnOk result ((name : List ℕ) → AddsPlacesUpTo most (test_of test.now) document name body.now
         (lines_of_document name body.now) places.old.items places.new.items) }
     ensures called_off { IfErr result (IsCalledOffOnlyIf (W.has_said_no watch.new)) }
@@ -195,7 +191,6 @@ fn scan_piece(
     places: &mut Vec<Place>,
 ) -> Result<(), AllocError>
     requires way { Finds (form test.now.tree) way.old }
-    requires short { has_long_line text.now ≡ false }
     requires inside { offset + length text.now ≤ greatest_body }
     requires room { from + length text.now ≤ 1 + greatest_body }
     ensures way { Finds (form test.now.tree) way.new }
@@ -263,7 +258,6 @@ fn scan_lines(
     places: &mut Vec<Place>,
 ) -> Result<(), AllocError>
     requires way { Finds (form test.now.tree) way.old }
-    requires short { has_long_line text.now ≡ false }
     requires inside { offset + length text.now ≤ greatest_body }
     requires room { from + length text.now ≤ 1 + greatest_body }
     ensures way { Finds (form test.now.tree) way.new }
@@ -288,7 +282,7 @@ fn scan_lines(
     scan_line(test, way, document, at, line, rest, places)
 }
 
-/// Adds the place of a line if it passes the test.
+/// Adds the place of a line if it passes the test. An `Err` means that memory ran out.
 fn scan_line(
     test: &Test,
     way: &mut Way<'_>,
@@ -299,14 +293,15 @@ fn scan_line(
     places: &mut Vec<Place>,
 ) -> Result<(), AllocError>
     requires way { Finds (form test.now.tree) way.old }
-    requires short { length text.now ≤ MAX_LINE }
     requires no_feed { (k : ℕ) → k < length text.now → slice_index text.now k ≢ 10 }
     requires inside { offset + length text.now ≤ greatest_body }
     ensures way { Finds (form test.now.tree) way.new }
     ensures places { OnOk result ((name body : List ℕ) → HasTextAt body offset text.now
         → AddsPlaces (test_of test.now) document name body (found name line text.now ∷ []) places.old.items places.new.items) }
 {
-    if !passes(test, way, text) {
+    let alloc = *places.allocator();
+    let passed = passes(alloc, test, way, text)?;
+    if !passed {
         return Ok(());
     }
     places.push(Place {

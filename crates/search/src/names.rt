@@ -76,7 +76,8 @@ fn with_names_by<W: Watch>(
     let mut kept = Vec::new(alloc);
     for document in documents {
         ask(watch)?;
-        if passes(test, way, document.name.as_bytes()) {
+        let passed = passes(alloc, test, way, document.name.as_bytes())?;
+        if passed {
             kept.push(document)?;
         }
     }

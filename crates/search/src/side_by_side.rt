@@ -19,7 +19,7 @@ use index::SharedDocument;
 use request::View;
 use std::alloc::Global;
 use std::thread::{Threads, join};
-use views::{Part, Places};
+use views::{Passage, Places};
 
 /// A part has at least so many bytes of bodies. To start a thread and to wait for it takes as long as to look through some
 /// twentieth of that.
@@ -32,7 +32,7 @@ const GAP: &[u8] = b"--\n";
 #[derive(Drop)]
 pub(crate) struct Joined {
     /// The text.
-    pub(crate) parts: Vec<Part>,
+    pub(crate) parts: Vec<Passage>,
     /// How many rows there are.
     pub(crate) rows: usize,
     /// How many lines are shown, or names.
@@ -73,7 +73,7 @@ fn bytes_of(documents: &[SharedDocument]) -> usize {
 }
 
 /// How many documents, from the first on, have so many bytes together. No answer depends on it.
-fn documents_with(documents: &[SharedDocument], bytes: usize) -> usize
+pub(crate) fn documents_with(documents: &[SharedDocument], bytes: usize) -> usize
     ensures { result ≤ length documents.now }
 {
     let mut left = bytes;
@@ -191,14 +191,14 @@ fn part_of<W: Watch>(
     from: usize,
     ahead: usize,
     watch: &mut W,
-) -> Result<Part, Unanswered>
+) -> Result<Passage, Unanswered>
     ensures part { IfOk result (λ part. part ≡ drop from gathered.text.items ++ text_of_hits zero gathered.hits) }
     ensures called_off { IfErr result (IsCalledOffOnlyIf (W.has_said_no watch.new)) }
 {
     let mut text = gathered.text;
     let from = from.min(text.len());
     let formed = append_first(&mut text, zero, gathered.hits.lines(), ahead, watch)?;
-    Ok(Part {
+    Ok(Passage {
         text,
         from,
         places: gathered.hits,
@@ -208,10 +208,10 @@ fn part_of<W: Watch>(
 }
 
 /// A part that is this text. It is all formed.
-fn text_part(alloc: Global, text: Vec<u8>) -> Part
+fn text_part(alloc: Global, text: Vec<u8>) -> Passage
     ensures { result ≡ text.items }
 {
-    Part {
+    Passage {
         text,
         from: 0,
         places: Places::new(alloc),

@@ -4,6 +4,7 @@ ghost use Rattle.std.specs.Prelude.{◌≡◌, IfOk, IfErr};
 ghost use Rattle.search.specs.declared.unanswered.Unanswered.TheVariants.{OutOfMemory};
 ghost use Rattle.search.specs.Private.Gathered.{shown_with};
 ghost use Rattle.prepare.specs.Prepared.{request_of};
+ghost use Rattle.search.specs.Private.Parts.{IsTakenUpTo};
 ghost use Rattle.search.specs.Taken.{IsTakenOf};
 
 use crate::gathered::{Wanted, gather};
@@ -49,9 +50,22 @@ pub fn take<'p>(
 ) -> Result<Taken<'p>, AllocError>
     ensures { IfOk result (IsTakenOf index.now (request_of prepared.now)) }
 {
+    let taken = take_up_to(alloc, index, prepared, usize::MAX)?;
+    Ok(taken)
+}
+
+/// The same, but of the documents only the first ones, in the order of their names, if there are `most` or more.
+pub(crate) fn take_up_to<'p>(
+    alloc: Global,
+    index: &Index,
+    prepared: &'p Prepared,
+    most: usize,
+) -> Result<Taken<'p>, AllocError>
+    ensures { IfOk result (IsTakenUpTo most index.now (request_of prepared.now)) }
+{
     let numbers = index.candidates(alloc, &prepared.query)?;
     let front = front_of(alloc, &prepared.names)?;
-    let candidates = index.chosen_documents_under(alloc, &numbers, &front)?;
+    let candidates = index.chosen_documents_under(alloc, &numbers, &front, most)?;
     Ok(Taken {
         prepared,
         version: index.version(),
@@ -168,7 +182,7 @@ impl Taken<'_> {
 }
 
 /// What is gathered for a search.
-fn wanted_by(prepared: &Prepared) -> Wanted<'_>
+pub(crate) fn wanted_by(prepared: &Prepared) -> Wanted<'_>
     ensures prepared { result.prepared.now ≡ prepared.now }
     ensures limit { result.limit ≡ prepared.now.limit }
     ensures view { result.view ≡ prepared.now.view }
@@ -181,7 +195,7 @@ fn wanted_by(prepared: &Prepared) -> Wanted<'_>
 }
 
 /// What is shown, with the counts of the index.
-fn with_counts(
+pub(crate) fn with_counts(
     alloc: Global,
     view: View,
     version: u32,

@@ -1,6 +1,6 @@
 //! The ways in which lines that contain a match are found.
 
-ghost use Rattle.std.specs.Prelude.{◌≢◌, ◌<◌, ◌≤◌, ◌↔◌, ℕ, IfOk, IfSome, IsTrue, length, slice_index};
+ghost use Rattle.std.specs.Prelude.{◌≢◌, ◌<◌, ◌↔◌, ℕ, IfOk, IfSome, IsTrue, length, slice_index};
 ghost use Rattle.ere.specs.Tree.{form};
 ghost use Rattle.ere.specs.Language.{ContainsMatch};
 ghost use Rattle.ere.specs.Limits.{IsWithinLimits};
@@ -22,7 +22,8 @@ use std::alloc::{AllocError, Global};
 pub enum Way<'p> {
     /// By the engine, over a whole body at once.
     FromMatchToMatch(Finder<'p>),
-    /// By the matcher, line by line, for a tree for which a line costs it few steps.
+    /// By the matcher, line by line, for a tree for which a line costs it few steps. A line that is too long for it goes by
+    /// a simulation.
     Matcher,
     /// By the simulation, line by line. Its time for a byte is bounded for every tree.
     Simulation(Simulation),
@@ -62,32 +63,50 @@ pub fn way_by<'p>(
 }
 
 /// Whether the line passes the test, by this way for its tree. The line has no line feed.
-pub fn passes(test: &Test, way: &mut Way<'_>, line: &[u8]) -> bool
-    requires short { length line.now ≤ MAX_LINE }
+///
+/// An `Err` means that there is no memory for a simulation, which a line that is too long for the matcher needs.
+pub fn passes(
+    alloc: Global,
+    test: &Test,
+    way: &mut Way<'_>,
+    line: &[u8],
+) -> Result<bool, AllocError>
     requires no_feed { (k : ℕ) → k < length line.now → slice_index line.now k ≢ 10 }
     requires way { Finds (form test.now.tree) way.old }
     ensures way { Finds (form test.now.tree) way.new }
-    ensures passes { IsTrue result ↔ Passes (test_of test.now) line.now }
+    ensures passes { IfOk result (λ passed. IsTrue passed ↔ Passes (test_of test.now) line.now) }
 {
-    let found = has_match(&test.tree, way, line);
+    let found = has_match(alloc, &test.tree, way, line)?;
     if test.inverted {
-        return !found;
+        return Ok(!found);
     }
-    found
+    Ok(found)
 }
 
 /// Whether the line contains a match of the tree, by this way. The line has no line feed.
-fn has_match(tree: &Ere, way: &mut Way<'_>, line: &[u8]) -> bool
+fn has_match(alloc: Global, tree: &Ere, way: &mut Way<'_>, line: &[u8]) -> Result<bool, AllocError>
     requires limits { IsWithinLimits (form tree.now) }
-    requires short { length line.now ≤ MAX_LINE }
     requires no_feed { (k : ℕ) → k < length line.now → slice_index line.now k ≢ 10 }
     requires way { Finds (form tree.now) way.old }
     ensures way { Finds (form tree.now) way.new }
-    ensures found { IsTrue result ↔ ContainsMatch (form tree.now) line.now }
+    ensures found { IfOk result (λ found. IsTrue found ↔ ContainsMatch (form tree.now) line.now) }
 {
     match way {
-        Way::FromMatchToMatch(finder) => finder.matches(line),
-        Way::Matcher => matches(tree, line),
-        Way::Simulation(simulation) => simulation.matches(line),
+        Way::FromMatchToMatch(finder) => Ok(finder.matches(line)),
+        Way::Matcher => matches_by_length(alloc, tree, line),
+        Way::Simulation(simulation) => Ok(simulation.matches(line)),
     }
+}
+
+/// Whether the line contains a match of the tree: by the matcher or, if the line is too long for it, by a simulation that
+/// is made for this line.
+fn matches_by_length(alloc: Global, tree: &Ere, line: &[u8]) -> Result<bool, AllocError>
+    requires { IsWithinLimits (form tree.now) }
+    ensures { IfOk result (λ found. IsTrue found ↔ ContainsMatch (form tree.now) line.now) }
+{
+    if line.len() <= MAX_LINE {
+        return Ok(matches(tree, line));
+    }
+    let mut simulation = Simulation::new(alloc, tree)?;
+    Ok(simulation.matches(line))
 }

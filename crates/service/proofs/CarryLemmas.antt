@@ -4,6 +4,7 @@ use Rattle.std.proofs.lemmas.List.{append-nil}
 use Rattle.std.specs.Prelude.{false, Result, IfOk, IfErr, length}
 use Rattle.index.specs.State.{State, state_of}
 use Rattle.index.specs.declared.command.Command.{Command}
+use Rattle.index.specs.declared.lengths.Lengths.{Lengths}
 use Rattle.index.specs.declared.command.Command.TheVariants.{Put, Remove}
 use Rattle.script.specs.Items.{Item}
 use Rattle.script.specs.Items as item
@@ -49,22 +50,22 @@ no_failure_in_room : (most : ℕ) (state : State) (line : ℕ) (entry : Entry) �
 no_failure_in_room most state line entry (full limit is) = no_failure_at is refl
 no_failure_in_room most state line entry (accepted room is) = no_failure_at is refl
 
-no_failure_named : (name : List ℕ) (line : ℕ) (entry : Entry) (Else : Type 0) → (Else → failures_in (Some entry) ≡ 0)
-    → IsNamed name line entry Else → failures_in (Some entry) ≡ 0
-no_failure_named name line entry Else none (bad_name fault other is_fault is) = no_failure_at is refl
-no_failure_named name line entry Else none (no_memory is_name is) = no_failure_at is refl
-no_failure_named name line entry Else none (named is_name else) = none else
+no_failure_named : (longest : ℕ) (name : List ℕ) (line : ℕ) (entry : Entry) (Else : Type 0) → (Else → failures_in (Some entry) ≡ 0)
+    → IsNamed longest name line entry Else → failures_in (Some entry) ≡ 0
+no_failure_named longest name line entry Else none (bad_name fault other is_fault is) = no_failure_at is refl
+no_failure_named longest name line entry Else none (no_memory is_name is) = no_failure_at is refl
+no_failure_named longest name line entry Else none (named is_name else) = none else
 
 no_failure_in_remove : (most : ℕ) (state : State) (name : List ℕ) (line : ℕ) (entry : Entry) → IsRemove most state name line entry
     → failures_in (Some entry) ≡ 0
 no_failure_in_remove most state name line entry (no_such_file none is) = no_failure_at is refl
 no_failure_in_remove most state name line entry (is_there there room) = no_failure_in_room most state line entry room
 
-module _ (Holds : List ℕ → List ℕ → Type 0) (desk : DeskState) (told : Known) (failed line : ℕ) (done : Result ℕ Reason) (entry : Entry)
+module _ (Holds : List ℕ → List ℕ → Type 0) (lengths : Lengths) (desk : DeskState) (told : Known) (failed line : ℕ) (done : Result ℕ Reason) (entry : Entry)
     (is : entry ≡ entry_of line done) where
-  pub carried_put : (name body : List ℕ) (desk' : DeskState) → IsPut desk.limit (state_of desk.accepted) name body line (entry_of line done)
+  pub carried_put : (name body : List ℕ) (desk' : DeskState) → IsPut lengths desk.limit (state_of desk.accepted) name body line (entry_of line done)
       → desk' ≡ desk_after done (Put name body ∷ []) desk
-      → IsEntered Holds desk told failed (item.numbered line (item.put name body)) entry desk' told failed
+      → IsEntered Holds lengths desk told failed (item.numbered line (item.put name body)) entry desk' told failed
   carried_put name body desk' legal_is left = rw (is, left) (record {
     loaded = None;
     legal = legal_is;
@@ -78,12 +79,12 @@ module _ (Holds : List ℕ → List ℕ → Type 0) (desk : DeskState) (told : K
     published = λ h. same_published done (Put name body ∷ []) desk ∙ h;
     counted =
         counted_same (entry_of line done) failed
-        (no_failure_named name line _ _
-        (λ h. no_failure_in_body desk.limit (state_of desk.accepted) body line (entry_of line done) (inl h)) legal_is);
+        (no_failure_named lengths.name name line _ _
+        (λ h. no_failure_in_body lengths desk.limit (state_of desk.accepted) body line (entry_of line done) (inl h)) legal_is);
   })
 
-  pub carried_load : (name path : List ℕ) (desk' : DeskState) (failed' : ℕ) → IsLoaded Holds desk failed name path done desk' failed'
-      → IsEntered Holds desk told failed (item.numbered line (item.load name path)) entry desk' told failed'
+  pub carried_load : (name path : List ℕ) (desk' : DeskState) (failed' : ℕ) → IsLoaded Holds lengths desk failed name path done desk' failed'
+      → IsEntered Holds lengths desk told failed (item.numbered line (item.load name path)) entry desk' told failed'
   carried_load name path desk' failed' load = rw (is, load.left) (record {
     loaded = load.loaded;
     legal = load.legal line;
@@ -99,9 +100,9 @@ module _ (Holds : List ℕ → List ℕ → Type 0) (desk : DeskState) (told : K
   })
 
   pub carried_remove : (name : List ℕ) (desk' : DeskState)
-      → IsNamed name line (entry_of line done) (IsRemove desk.limit (state_of desk.accepted) name line (entry_of line done))
+      → IsNamed lengths.name name line (entry_of line done) (IsRemove desk.limit (state_of desk.accepted) name line (entry_of line done))
       → desk' ≡ desk_after done (Remove name ∷ []) desk
-      → IsEntered Holds desk told failed (item.numbered line (item.remove name)) entry desk' told failed
+      → IsEntered Holds lengths desk told failed (item.numbered line (item.remove name)) entry desk' told failed
   carried_remove name desk' legal_is left = rw (is, left) (record {
     loaded = None;
     legal = legal_is;
@@ -115,17 +116,17 @@ module _ (Holds : List ℕ → List ℕ → Type 0) (desk : DeskState) (told : K
     published = λ h. same_published done (Remove name ∷ []) desk ∙ h;
     counted =
         counted_same (entry_of line done) failed
-        (no_failure_named name line _ _ (no_failure_in_remove desk.limit (state_of desk.accepted) name line (entry_of line done))
+        (no_failure_named lengths.name name line _ _ (no_failure_in_remove desk.limit (state_of desk.accepted) name line (entry_of line done))
         legal_is);
   })
 
 -- publishes, and lines that are not valid items
-module _ (Holds : List ℕ → List ℕ → Type 0) (desk : DeskState) (told : Known) (failed line : ℕ) (entry : Entry) where
+module _ (Holds : List ℕ → List ℕ → Type 0) (lengths : Lengths) (desk : DeskState) (told : Known) (failed line : ℕ) (entry : Entry) where
   pub carried_publish : (desk' : DeskState) (told' : Known) (published : Result ℕ Reason) → entry ≡ published_entry_of line published
       → IfOk published (λ version. (version ≡ length desk.accepted) × (told' ≡ known desk.opening desk.accepted) × (desk'.published ≡ desk.accepted))
       → IfErr published (λ why. (why ≡ reason.OutOfMemory) × (told' ≡ told) × (desk'.published ≡ desk.published))
       → desk'.accepted ≡ desk.accepted → (desk'.opening ≡ desk.opening) × (desk'.limit ≡ desk.limit)
-      → IsEntered Holds desk told failed (item.numbered line item.publish) entry desk' told' failed
+      → IsEntered Holds lengths desk told failed (item.numbered line item.publish) entry desk' told' failed
   carried_publish desk' told' (Ok version) is' ok err kept others = rw is' (record {
     loaded = None;
     legal = legal.published (ap (Published line) ok.0);
@@ -155,8 +156,8 @@ module _ (Holds : List ℕ → List ℕ → Type 0) (desk : DeskState) (told : K
 
   -- a line that is refused for itself
   pub carried_refused : (shown : Item) (why : Reason) → entry ≡ Refused line why
-      → IsCommandEntry Holds desk.limit (state_of desk.accepted) None line shown (Refused line why) → searches_of shown ≡ 0 → is_sync shown ≡ false
-      → failures_in (Some (Refused line why)) ≡ 0 → IsEntered Holds desk told failed (item.numbered line shown) entry desk told failed
+      → IsCommandEntry Holds lengths desk.limit (state_of desk.accepted) None line shown (Refused line why) → searches_of shown ≡ 0 → is_sync shown ≡ false
+      → failures_in (Some (Refused line why)) ≡ 0 → IsEntered Holds lengths desk told failed (item.numbered line shown) entry desk told failed
   carried_refused shown why is legal_is none no_sync unfailed = rw is (record {
     loaded = None;
     legal = legal_is;

@@ -1,5 +1,6 @@
 -- The entries of single items are legal.
-use Rattle.std.proofs.Common.{◌≡◌, ◌≢◌, ℕ, zero, suc, ◌<◌, ◌⊎◌, inl, inr, Bool, true, false, List, Some, refl, ap, ◌∙◌, arith, MatchBool}
+use Rattle.std.proofs.Common.{◌≡◌, ◌≢◌, ℕ, zero, suc, ◌<◌, ◌≤◌, ◌⊎◌, inl, inr, Bool, true, false, List, Some, refl, sym, ap, subst, ◌∙◌, arith, MatchBool}
+use Rattle.std.proofs.lemmas.Bool.{cases_lt}
 use Rattle.ere.specs.declared.error.EreError.{EreError}
 use Rattle.ere.specs.declared.error.EreErrorKind.{EreErrorKind}
 use Rattle.ere.specs.declared.error.EreErrorKind.TheVariants as kind
@@ -7,14 +8,17 @@ use Rattle.ere.specs.declared.case.Case.{Case}
 use Rattle.ere.specs.declared.case.Case.TheVariants.{Exact}
 use Rattle.index.specs.State.{State}
 use Rattle.index.specs.declared.error.NameError.{NameError}
+use Rattle.index.specs.declared.lengths.Lengths.{Lengths}
 use Rattle.index.specs.declared.error.NameError.TheVariants as name
 use Rattle.index.specs.declared.error.BodyErrorKind.TheVariants as body
 use Rattle.std.proofs.Common.{length}
 use Rattle.steps.specs.Rows.{failures_in}
-use Rattle.index.specs.Text.{greatest_body, IsName, IsNameFault, IsBodyFault}
+use Rattle.index.specs.Text.{most_bytes, IsNameOf, IsNameFault, IsBodyFault}
 use Rattle.prepare.specs.Pattern.{HasTree, IsTreeFault}
 use Rattle.transcript.specs.declared.entry.Entry.{Entry}
 use Rattle.transcript.specs.declared.entry.Entry.TheVariants.{Refused}
+use Rattle.transcript.specs.declared.entry.Reason.{Reason}
+use Rattle.transcript.specs.declared.entry.Reason.TheVariants as reason
 use Rattle.transcript.specs.declared.entry.SearchReason.TheVariants as search_reason
 use Rattle.steps.specs.LegalRows.{IsNamed, bad_name, no_memory, named, bad_body, with_body, full, accepted, IsPut, IsRemove, HasLoaded, loaded_body}
 use Rattle.request.specs.Faults.{IsFirstFault}
@@ -30,29 +34,29 @@ use Rattle.service.specs.Private.Entries as entries
 use Rattle.service.specs.Private.Entries.{IsReasonOfWords, reason_of_find, reason_of_find_of, reason_of_name, reason_of_fault, reason_of_fault_of, HasBodyOrNoMemory, IsRemoveOrNoMemory}
 use Rattle.service.specs.Service.{IsCounted}
 
-pub named_fault : (error : NameError) (bytes : List ℕ) (line : ℕ) (entry : Entry) (Else : Type 0) → IsNameFault error bytes
-    → entry ≡ Refused line (reason_of_name error) → IsNamed bytes line entry Else
+pub named_fault : (longest : ℕ) (error : NameError) (bytes : List ℕ) (line : ℕ) (entry : Entry) (Else : Type 0) → IsNameFault longest error bytes
+    → entry ≡ Refused line (reason_of_name error) → IsNamed longest bytes line entry Else
 unfolding IsNameFault
-named_fault name.Empty bytes line entry Else fault is = bad_name name.Empty (λ e. cc) fault is
-named_fault name.TooLong bytes line entry Else fault is = bad_name name.TooLong (λ e. cc) fault is
-named_fault name.BadByte bytes line entry Else fault is = bad_name name.BadByte (λ e. cc) fault is
-named_fault name.OutOfMemory bytes line entry Else fault is = no_memory fault is
+named_fault longest name.Empty bytes line entry Else fault is = bad_name name.Empty (λ e. cc) fault is
+named_fault longest name.TooLong bytes line entry Else fault is = bad_name name.TooLong (λ e. cc) fault is
+named_fault longest name.BadByte bytes line entry Else fault is = bad_name name.BadByte (λ e. cc) fault is
+named_fault longest name.OutOfMemory bytes line entry Else fault is = no_memory fault is
 
-pub named_body : (most : ℕ) (state : State) (bytes bytes' : List ℕ) (line : ℕ) (entry : Entry) → IsName bytes
-    → HasBodyOrNoMemory most state bytes' line entry → IsPut most state bytes bytes' line entry
-named_body most state bytes bytes' line entry is (inl body_is) = named is body_is
-named_body most state bytes bytes' line entry is (inr ran_out) = no_memory is ran_out.2
+pub named_body : (lengths : Lengths) (most : ℕ) (state : State) (bytes bytes' : List ℕ) (line : ℕ) (entry : Entry) → IsNameOf lengths.name bytes
+    → HasBodyOrNoMemory lengths most state bytes' line entry → IsPut lengths most state bytes bytes' line entry
+named_body lengths most state bytes bytes' line entry is (inl body_is) = named is body_is
+named_body lengths most state bytes bytes' line entry is (inr ran_out) = no_memory is ran_out.2
 
-pub named_removed : (most : ℕ) (state : State) (bytes : List ℕ) (line : ℕ) (entry : Entry) → IsName bytes
-    → IsRemoveOrNoMemory most state bytes line entry → IsNamed bytes line entry (IsRemove most state bytes line entry)
-named_removed most state bytes line entry is (inl removed) = named is removed
-named_removed most state bytes line entry is (inr ran_out) = no_memory is ran_out.1
+pub named_removed : (longest most : ℕ) (state : State) (bytes : List ℕ) (line : ℕ) (entry : Entry) → IsNameOf longest bytes
+    → IsRemoveOrNoMemory most state bytes line entry → IsNamed longest bytes line entry (IsRemove most state bytes line entry)
+named_removed longest most state bytes line entry is (inl removed) = named is removed
+named_removed longest most state bytes line entry is (inr ran_out) = no_memory is ran_out.1
 
-pub named_loaded : (Holds : List ℕ → List ℕ → Type 0) (most : ℕ) (state : State) (bytes path bytes' : List ℕ) (line : ℕ) (entry : Entry)
-    → IsName bytes → Holds path bytes' → HasBodyOrNoMemory most state bytes' line entry
-    → IsNamed bytes line entry (HasLoaded Holds most state path (Some bytes') line entry)
-named_loaded Holds most state bytes path bytes' line entry is held (inl body_is) = named is (loaded_body bytes' refl held body_is)
-named_loaded Holds most state bytes path bytes' line entry is held (inr ran_out) = no_memory is ran_out.2
+pub named_loaded : (Holds : List ℕ → List ℕ → Type 0) (lengths : Lengths) (most : ℕ) (state : State) (bytes path bytes' : List ℕ) (line : ℕ) (entry : Entry)
+    → IsNameOf lengths.name bytes → Holds path bytes' → HasBodyOrNoMemory lengths most state bytes' line entry
+    → IsNamed lengths.name bytes line entry (HasLoaded Holds lengths most state path (Some bytes') line entry)
+named_loaded Holds lengths most state bytes path bytes' line entry is held (inl body_is) = named is (loaded_body bytes' refl held body_is)
+named_loaded Holds lengths most state bytes path bytes' line entry is held (inr ran_out) = no_memory is ran_out.2
 
 -- A kind of fault is lack of memory, or it is not.
 memory_or_not : (k : EreErrorKind) → (k ≡ kind.OutOfMemory) ⊎ (k ≡ kind.OutOfMemory → ⊥)
@@ -173,9 +177,21 @@ find_pattern_fault text options pattern fault asks none = by_kind (memory_or_not
     by_kind (inl memory) = asked.no_memory (ap (λ k. reason_of_find_of fault.name k fault.error) memory)
     by_kind (inr real) = by_name fault.name (none real) real
 
-pub too_long_body : (bytes : List ℕ) → greatest_body < length bytes → IsBodyFault body.TooLong bytes
+pub too_long_body : (lengths : Lengths) (bytes : List ℕ) → most_bytes lengths < length bytes → IsBodyFault lengths body.TooLong bytes
 unfolding IsBodyFault
-too_long_body bytes h = h
+too_long_body lengths bytes h = h
+
+-- A put of which only the length of the body is known is refused for it, or for lack of memory.
+pub skipped_put : (lengths : Lengths) (most : ℕ) (state : State) (bytes bytes' : List ℕ) (size line : ℕ) (why : Reason)
+    → IsNameOf lengths.name bytes → length bytes' ≡ size → (most_bytes lengths < size → why ≡ reason.Body body.TooLong)
+    → (size ≤ most_bytes lengths → why ≡ reason.OutOfMemory) → IsPut lengths most state bytes bytes' line (Refused line why)
+skipped_put lengths most state bytes bytes' size line why is same long lost = by (cases_lt (most_bytes lengths) size)
+  where
+    by : (most_bytes lengths < size) ⊎ (size ≤ most_bytes lengths) → IsPut lengths most state bytes bytes' line (Refused line why)
+    by (inl high) =
+        named is
+        (bad_body body.TooLong (too_long_body lengths bytes' (subst (λ n. most_bytes lengths < n) (sym same) high)) (ap (Refused line) (long high)))
+    by (inr low) = no_memory is (ap (Refused line) (lost low))
 
 -- A refusal for the name or the body does not count as a failure of the source.
 pub no_failure_in_name : (error : NameError) → failures_in (Some (Refused 0 (reason_of_name error))) ≡ 0
@@ -187,12 +203,12 @@ no_failure_in_name name.OutOfMemory = refl
 pub no_failure_at : {entry entry' : Entry} → entry ≡ entry' → failures_in (Some entry') ≡ 0 → failures_in (Some entry) ≡ 0
 no_failure_at is none = ap (λ e. failures_in (Some e)) is ∙ none
 
-pub no_failure_in_body : (most : ℕ) (state : State) (bytes : List ℕ) (line : ℕ) (entry : Entry)
-    → HasBodyOrNoMemory most state bytes line entry → failures_in (Some entry) ≡ 0
-no_failure_in_body most state bytes line entry (inl (bad_body fault is_fault is)) = no_failure_at is refl
-no_failure_in_body most state bytes line entry (inl (with_body is_body (full all is))) = no_failure_at is refl
-no_failure_in_body most state bytes line entry (inl (with_body is_body (accepted room is))) = no_failure_at is refl
-no_failure_in_body most state bytes line entry (inr is) = no_failure_at is.2 refl
+pub no_failure_in_body : (lengths : Lengths) (most : ℕ) (state : State) (bytes : List ℕ) (line : ℕ) (entry : Entry)
+    → HasBodyOrNoMemory lengths most state bytes line entry → failures_in (Some entry) ≡ 0
+no_failure_in_body lengths most state bytes line entry (inl (bad_body fault is_fault is)) = no_failure_at is refl
+no_failure_in_body lengths most state bytes line entry (inl (with_body is_body (full all is))) = no_failure_at is refl
+no_failure_in_body lengths most state bytes line entry (inl (with_body is_body (accepted room is))) = no_failure_at is refl
+no_failure_in_body lengths most state bytes line entry (inr is) = no_failure_at is.2 refl
 
 pub counted_none : (entry : Entry) (failed failed' : ℕ) → failures_in (Some entry) ≡ 0 → failed' ≡ failed → IsCounted (failures_in (Some entry)) failed failed'
 counted_none entry failed failed' none same = record {

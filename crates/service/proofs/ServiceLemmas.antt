@@ -20,7 +20,7 @@ use Rattle.prepare.specs.Request.{Request}
 use Rattle.prepare.specs.Prepared.{request_of}
 use Rattle.prepare.specs.declared.pattern.Prepared.{Prepared}
 use Rattle.logbook.specs.Pages.{Book}
-use Rattle.index.specs.declared.body.TheConstants.{MAX_BODY}
+use Rattle.index.specs.declared.lengths.Lengths.{Lengths}
 use Rattle.input.specs.declared.owned.OwnedItem.{OwnedItem}
 use Rattle.input.specs.declared.owned.OwnedItem.TheVariants as owned
 use Rattle.input.specs.Owned.{ShowsOwned}
@@ -63,14 +63,14 @@ last_is_one default (x ∷ xs) = by (last_is_one x xs)
     by (inl is) = inr (subst (λ v. Contains (x ∷ xs) v) (sym is) (0, omega arith, refl))
     by (inr inside) = inr (Contains-append_right (x ∷ []) xs (last_or x xs) inside)
 
-module _ (Holds : List ℕ → List ℕ → Type 0) (desk : DeskState) (told : Known) (failed : ℕ) (item : Numbered) (entry : Entry)
-    (desk' : DeskState) (told' : Known) (failed' : ℕ) (entered : IsEntered Holds desk told failed item entry desk' told' failed')
+module _ (Holds : List ℕ → List ℕ → Type 0) (lengths : Lengths) (desk : DeskState) (told : Known) (failed : ℕ) (item : Numbered) (entry : Entry)
+    (desk' : DeskState) (told' : Known) (failed' : ℕ) (entered : IsEntered Holds lengths desk told failed item entry desk' told' failed')
     (timed : Bool) (kept : List ℕ) (searches : ℕ) (awaited : List OpenSearch) (lasts : List Last) where
   abbrev old : ServiceState
-  old = service_of desk timed told kept searches awaited lasts
+  old = service_of desk lengths timed told kept searches awaited lasts
 
   abbrev new : ServiceState
-  new = service_of desk' timed told' kept searches awaited lasts
+  new = service_of desk' lengths timed told' kept searches awaited lasts
 
   told_by : Tells desk told entry told' → IsPrefix told.commands desk.accepted
       → IsPrefix told'.commands desk'.accepted × (length told.commands ≤ length told'.commands)
@@ -126,7 +126,7 @@ module _ (Holds : List ℕ → List ℕ → Type 0) (desk : DeskState) (told : K
       latest = ap (last_or 0) one ∙ latest_by entered.tells published fits.latest;
       kept = λ version inside. subst (λ l. (version ≡ 0) ⊎ Contains l version) (sym one) (by version (sub version inside));
     };
-    limits = ap (λ n. limits_of n timed) entered.limit;
+    limits = ap (λ n. limits_of n lengths timed) entered.limit;
   }
     where
       one : published ++ versions_in (entry ∷ []) ≡ published ++ version_in (Some entry)
@@ -477,10 +477,10 @@ either_map f (inl p) = inl (f p)
 either_map f (inr q) = inr q
 
 -- the desk and what was told of are as they were
-pub left_same : (desk : DeskState) (told : Known) (failed : ℕ) (desk' : DeskState) (told' : Known) (failed' : ℕ) (timed : Bool) (kept : List ℕ) (searches : ℕ)
+pub left_same : (desk : DeskState) (told : Known) (failed : ℕ) (desk' : DeskState) (told' : Known) (failed' : ℕ) (lengths : Lengths) (timed : Bool) (kept : List ℕ) (searches : ℕ)
     (awaited : List OpenSearch) (lasts : List Last) → IsLeft desk told failed desk' told' failed'
-    → service_of desk' timed told' kept searches awaited lasts ≡ service_of desk timed told kept searches awaited lasts
-left_same desk told failed desk' told' failed' timed kept searches awaited lasts left = rw (left.0, left.1) refl
+    → service_of desk' lengths timed told' kept searches awaited lasts ≡ service_of desk lengths timed told kept searches awaited lasts
+left_same desk told failed desk' told' failed' lengths timed kept searches awaited lasts left = rw (left.0, left.1) refl
 
 -- few searches are open
 pub few_open : (service : ServiceState) → IsService service → length service.awaited ≤ service.searches
@@ -504,14 +504,10 @@ pub gives_too_slow : (place : ℕ) (old : ServiceState) (entry : Entry) (new : S
     → IsGivenUp place reason.TooSlow old entry new → Gives old entry new
 gives_too_slow place old entry new timed is = too_slow place is.search timed is.is_open is.refused is.left
 
-longer : (n : ℕ) → (body : List ℕ) × (n < length body)
-longer n = (replicate (n + 1) 0, omega (arith, length-replicate {A = ℕ} (n + 1) 0))
-
 -- whatever was read shows something
 pub shown_some : (o : OwnedItem) → (i : Item) × ShowsOwned o i
 shown_some (owned.Put name body) = (item.put name.items body.items, refl)
-shown_some (owned.LongPut name) = let long = longer MAX_BODY in (item.put name.items long.0, (long.0, refl, long.1))
-shown_some (owned.LostPut name) = (item.put name.items [], ([], refl))
+shown_some (owned.SkippedPut name size) = (item.put name.items (replicate size 0), (replicate size 0, refl, length-replicate {A = ℕ} size 0))
 shown_some (owned.Load name path) = (item.load name.items path.items, refl)
 shown_some (owned.Remove name) = (item.remove name.items, refl)
 shown_some owned.Publish = (item.publish, refl)

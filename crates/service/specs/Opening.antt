@@ -1,11 +1,13 @@
 -- What is opened.
 use Rattle.std.specs.Prelude.{ℕ, Bool}
 use Rattle.logbook.specs.Pages.{Book}
+use Rattle.index.specs.declared.lengths.Lengths.{Lengths}
 use Rattle.steps.specs.LegalRows.{Limits}
 
--- commands: how many commands are accepted at most. timed: whether searches have a limit of time.
-abbrev pub limits_of : ℕ → Bool → Limits
-limits_of commands timed = record { commands = commands; timed = timed }
+-- commands: how many commands are accepted at most. lengths: how long names, bodies and lines may be. timed: whether searches
+-- have a limit of time.
+abbrev pub limits_of : ℕ → Lengths → Bool → Limits
+limits_of commands lengths timed = record { commands = commands; lengths = lengths; timed = timed }
 
 -- The book that names the opening, what bounds it, and how many readers there are in addition to reader 0.
 pub record OpenedState : Type 0 where

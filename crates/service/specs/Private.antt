@@ -3,3 +3,4 @@ pub mod Entries
 pub mod Items
 pub mod Requests
 pub mod Closing
+pub mod Found

@@ -3,7 +3,8 @@
 ghost use Rattle.std.specs.Prelude.{◌≡◌, ℕ, ◌+◌, ◌<◌, ◌^◌, ◌≤◌, List, [], ◌∷◌, length, IfOk, IfErr};
 ghost use Rattle.index.specs.declared.command.Command.TheVariants.{Put as put_command, Remove as remove_command};
 ghost use Rattle.index.specs.State.{State, state_of};
-ghost use Rattle.index.specs.Text.{greatest_body};
+ghost use Rattle.index.specs.Text.{most_bytes};
+ghost use Rattle.index.specs.declared.error.BodyErrorKind.TheVariants.{TooLong as body_too_long};
 ghost use Rattle.input.specs.Owned.{ShowsOwned};
 ghost use Rattle.script.specs.Items.{Item, numbered};
 ghost use Rattle.transcript.specs.declared.entry.Entry.TheVariants.{Refused as refused_entry};
@@ -15,7 +16,7 @@ ghost use Rattle.service.specs.Private.Items.{IsCarriedOut};
 
 use crate::question::{Question, Texts};
 use crate::source::{Fault, Source};
-use index::{Body, BodyErrorKind, Name, NameError};
+use index::{Body, BodyErrorKind, Lengths, Name, NameError};
 use input::{OwnedItem, ReadItem};
 use published::{Desk, PutErrorKind, RemoveError, Told};
 use std::alloc::Global;
@@ -33,11 +34,12 @@ fn reason_of_name(error: NameError) -> Reason
     }
 }
 
-fn put_body(desk: &mut Desk, name: Name, bytes: Vec<u8>) -> Result<u32, Reason>
-    ensures entry { (line : ℕ) → HasBodyOrNoMemory desk.old.limit (state_of desk.old.accepted) bytes.items line (entry_of line result) }
+fn put_body(desk: &mut Desk, lengths: Lengths, name: Name, bytes: Vec<u8>) -> Result<u32, Reason>
+    ensures entry { (line : ℕ) → HasBodyOrNoMemory lengths desk.old.limit (state_of desk.old.accepted) bytes.items line
+        (entry_of line result) }
     ensures desk { desk.new ≡ desk_after result (put_command name bytes.items ∷ []) desk.old }
 {
-    let body = match Body::new(bytes) {
+    let body = match Body::within(bytes, lengths) {
         Ok(body) => body,
         Err(error) => return Err(Reason::Body(error.kind)),
     };
@@ -54,36 +56,43 @@ fn put_body(desk: &mut Desk, name: Name, bytes: Vec<u8>) -> Result<u32, Reason>
 ///
 /// An `Err` is the first cause: the fault of the name, the fault of the body, or `Full`; or `OutOfMemory`. Nothing is
 /// accepted then.
-fn put(alloc: Global, desk: &mut Desk, name: &[u8], body: Vec<u8>) -> Result<u32, Reason>
-    ensures entry { (line : ℕ) → IsPut desk.old.limit (state_of desk.old.accepted) name.now body.items line (entry_of line result) }
+fn put(
+    alloc: Global,
+    desk: &mut Desk,
+    lengths: Lengths,
+    name: &[u8],
+    body: Vec<u8>,
+) -> Result<u32, Reason>
+    ensures entry { (line : ℕ) → IsPut lengths desk.old.limit (state_of desk.old.accepted) name.now body.items line (entry_of line result) }
     ensures desk { desk.new ≡ desk_after result (put_command name.now body.items ∷ []) desk.old }
 {
-    match Name::new(alloc, name) {
-        Ok(name) => put_body(desk, name, body),
+    match Name::within(alloc, name, lengths.name) {
+        Ok(name) => put_body(desk, lengths, name, body),
         Err(error) => Err(reason_of_name(error)),
     }
 }
 
-/// Why a put whose body is too long is refused: for its name, if that is not valid, and otherwise for the body.
-fn reason_of_long_put(alloc: Global, name: &[u8]) -> Reason
+/// Why a put of so many bytes, which were not kept, is refused: for its name, if that is not valid, and otherwise for its
+/// body, if that is too long, or else for lack of memory.
+fn reason_of_skipped_put(alloc: Global, lengths: Lengths, name: &[u8], size: usize) -> Reason
     ensures { (most : ℕ) (state : State) (body : List ℕ) (line : ℕ)
-        → greatest_body < length body → IsPut most state name.now body line (Entry.Refused line result) }
+        → length body ≡ size → IsPut lengths most state name.now body line (Entry.Refused line result) }
 {
-    match Name::new(alloc, name) {
-        Ok(_) => Reason::Body(BodyErrorKind::TooLong),
+    match Name::within(alloc, name, lengths.name) {
+        Ok(_) => reason_of_skipped_body(lengths, size),
         Err(error) => reason_of_name(error),
     }
 }
 
-/// Why a put is refused if there is no memory for its bytes: for its name, if that is not valid, and otherwise for
-/// lack of memory.
-fn reason_of_lost_put(alloc: Global, name: &[u8]) -> Reason
-    ensures { (most : ℕ) (state : State) (body : List ℕ) (line : ℕ) → IsPut most state name.now body line (Entry.Refused line result) }
+/// Why a body of so many bytes, which were not kept, is refused.
+fn reason_of_skipped_body(lengths: Lengths, size: usize) -> Reason
+    ensures long { most_bytes lengths < size → result ≡ Reason.Body body_too_long }
+    ensures lost { size ≤ most_bytes lengths → result ≡ Reason.OutOfMemory }
 {
-    match Name::new(alloc, name) {
-        Ok(_) => Reason::OutOfMemory,
-        Err(error) => reason_of_name(error),
+    if size > lengths.most_bytes() {
+        return Reason::Body(BodyErrorKind::TooLong);
     }
+    Reason::OutOfMemory
 }
 
 /// Loads a body and puts it. The source is asked for the body once, unless the line is refused at its name.
@@ -91,32 +100,34 @@ fn reason_of_lost_put(alloc: Global, name: &[u8]) -> Reason
 fn load<S: Source>(
     alloc: Global,
     desk: &mut Desk,
+    lengths: Lengths,
     source: &mut S,
     name: &[u8],
     path: &[u8],
 ) -> Result<u32, Reason>
     ensures counted { S.failed source.old ≤ S.failed source.new }
-    ensures entry { IsLoaded (S.holds source.old) desk.old (S.failed source.old) name.now path.now result desk.new (S.failed source.new) }
+    ensures entry { IsLoaded (S.holds source.old) lengths desk.old (S.failed source.old) name.now path.now result desk.new (S.failed source.new) }
     ensures same { (path body : List ℕ) → (S.holds source.new path body → S.holds source.old path body)
         × (S.holds source.old path body → S.holds source.new path body) }
 {
-    let name = match Name::new(alloc, name) {
+    let name = match Name::within(alloc, name, lengths.name) {
         Ok(name) => name,
         Err(error) => return Err(reason_of_name(error)),
     };
     match source.read(alloc, path) {
-        Ok(bytes) => put_body(desk, name, bytes),
+        Ok(bytes) => put_body(desk, lengths, name, bytes),
         Err(Fault::Failed) => Err(Reason::CannotLoad),
         Err(Fault::OutOfMemory) => Err(Reason::OutOfMemory),
     }
 }
 
-fn remove(alloc: Global, desk: &mut Desk, name: &[u8]) -> Result<u32, Reason>
-    ensures entry { (line : ℕ) → IsNamed name.now line (entry_of line result)
+/// Removes the document of this name, of at most `longest` bytes.
+fn remove(alloc: Global, desk: &mut Desk, longest: usize, name: &[u8]) -> Result<u32, Reason>
+    ensures entry { (line : ℕ) → IsNamed longest name.now line (entry_of line result)
         (IsRemove desk.old.limit (state_of desk.old.accepted) name.now line (entry_of line result)) }
     ensures desk { desk.new ≡ desk_after result (remove_command name.now ∷ []) desk.old }
 {
-    match Name::new(alloc, name) {
+    match Name::within(alloc, name, longest) {
         Ok(name) => remove_named(desk, &name),
         Err(error) => Err(reason_of_name(error)),
     }
@@ -191,17 +202,19 @@ pub enum Outcome {
     Status,
 }
 
-/// Carries out an item at the desk, and keeps what a publish hands out in `told`. Searches, syncs, cancels and statuses are
+/// Carries out an item at the desk, with names, bodies and lines of these lengths, and keeps what a publish hands out in
+/// `told`. Searches, syncs, cancels and statuses are
 /// left to the caller.
 pub fn carry_out<R: Threads + Wait + Sync, S: Source>(
     rt: &R,
     alloc: Global,
     desk: &mut Desk,
+    lengths: Lengths,
     told: &mut Told,
     source: &mut S,
     read: ReadItem,
 ) -> Outcome
-    ensures done { (shown : Item) → ShowsOwned read.item shown → IsCarriedOut (S.holds source.old) desk.old told.old (S.failed source.old)
+    ensures done { (shown : Item) → ShowsOwned read.item shown → IsCarriedOut (S.holds source.old) lengths desk.old told.old (S.failed source.old)
         (numbered read.line shown) result desk.new told.new (S.failed source.new) }
     ensures same { (path body : List ℕ) → (S.holds source.new path body → S.holds source.old path body)
         × (S.holds source.old path body → S.holds source.new path body) }
@@ -210,18 +223,18 @@ pub fn carry_out<R: Threads + Wait + Sync, S: Source>(
     let ReadItem { line, item } = read;
     match item {
         OwnedItem::Put { name, body } => {
-            Outcome::Entry(entry_of(line, put(alloc, desk, &name, body)))
+            Outcome::Entry(entry_of(line, put(alloc, desk, lengths, &name, body)))
         }
-        OwnedItem::LongPut { name } => {
-            Outcome::Entry(entry_of(line, Err(reason_of_long_put(alloc, &name))))
-        }
-        OwnedItem::LostPut { name } => {
-            Outcome::Entry(entry_of(line, Err(reason_of_lost_put(alloc, &name))))
+        OwnedItem::SkippedPut { name, size } => {
+            let reason = reason_of_skipped_put(alloc, lengths, &name, size);
+            Outcome::Entry(entry_of(line, Err(reason)))
         }
         OwnedItem::Load { name, path } => {
-            Outcome::Entry(entry_of(line, load(alloc, desk, source, &name, &path)))
+            Outcome::Entry(entry_of(line, load(alloc, desk, lengths, source, &name, &path)))
         }
-        OwnedItem::Remove { name } => Outcome::Entry(entry_of(line, remove(alloc, desk, &name))),
+        OwnedItem::Remove { name } => {
+            Outcome::Entry(entry_of(line, remove(alloc, desk, lengths.name, &name)))
+        }
         OwnedItem::Publish => Outcome::Entry(publish_entry(line, publish(rt, desk, told))),
         OwnedItem::Search { case, pattern } => {
             Outcome::Search(Question::new(Texts::Search { case, pattern }))

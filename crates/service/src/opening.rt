@@ -11,6 +11,7 @@ ghost use Rattle.service.specs.Opening.{limits_of, opened_state};
 use crate::naming::Naming;
 use crate::reader::Reader;
 use crate::service::Service;
+use index::Lengths;
 use published::{Desk, OpenError, Reading, Told};
 use std::alloc::{AllocError, Global};
 use std::collections::VecDeque;
@@ -27,6 +28,8 @@ pub struct Opened {
     /// The reading of reader 0.
     reading: Reading,
     readings: Vec<Reading>,
+    /// How long names, bodies and lines may be.
+    lengths: Lengths,
     /// How many milliseconds a search has at most, if there is such a limit.
     search_ms: Option<u32>,
 }
@@ -38,26 +41,28 @@ impl Model for Opened {
 
     ghost Value = { OpenedState };
 
-    ghost view = { λ o. opened_state o.desk.opening (limits_of o.desk.limit (is_some o.search_ms)) (length o.readings.items) };
+    ghost view = { λ o. opened_state o.desk.opening (limits_of o.desk.limit o.lengths (is_some o.search_ms)) (length o.readings.items) };
 
     ghost invariant = { λ o. (o.desk.accepted ≡ []) × (o.desk.published ≡ []) × (o.told ≡ known o.desk.opening []) × (o.reading ≡ known o.desk.opening [])
         × All (λ reading. reading ≡ known o.desk.opening []) o.readings.items × (length o.readings.items ≤ 16) };
 }
 
-/// Opens a service for at most `max_commands` commands (1 to 4,294,967,294), with `readers` readers in addition to
-/// reader 0 (0 to 16), in which a search has at most `search_ms` milliseconds, if there is such a limit.
+/// Opens a service for at most `max_commands` commands (1 to 4,294,967,294), for names, bodies and lines of these
+/// lengths, with `readers` readers in addition to reader 0 (0 to 16), in which a search has at most `search_ms`
+/// milliseconds, if there is such a limit.
 ///
 /// `NoPlace` means that a reader got no place, and `OutOfMemory` that memory ran out.
 pub fn open<R: Threads + Wait + Sync>(
     rt: &R,
     alloc: Global,
     max_commands: u32,
+    lengths: Lengths,
     search_ms: Option<u32>,
     readers: u32,
 ) -> Result<Opened, OpenError>
     requires commands { (0 < max_commands) × (max_commands ≤ MAX_COMMANDS) }
     requires readers { readers ≤ 16 }
-    ensures { IfOk result (λ opened. opened ≡ opened_state opened.opening (limits_of max_commands (is_some search_ms)) readers) }
+    ensures { IfOk result (λ opened. opened ≡ opened_state opened.opening (limits_of max_commands lengths (is_some search_ms)) readers) }
 {
     let (mut desk, mut readings) = published::open(rt, alloc, max_commands, readers as usize + 1)?;
     match (readings.pop(), desk.publish(rt)) {
@@ -66,6 +71,7 @@ pub fn open<R: Threads + Wait + Sync>(
             told,
             reading,
             readings,
+            lengths,
             search_ms,
         }),
         _ => {
@@ -93,11 +99,14 @@ impl Opened {
             told,
             reading,
             readings,
+            lengths,
             search_ms,
         } = self;
         match parts(alloc, readings) {
             Ok((readers, kept, lasts)) => {
-                let service = Service::new(alloc, desk, told, reading, kept, lasts, search_ms);
+                let service = Service::new(
+                    alloc, desk, told, reading, kept, lasts, lengths, search_ms,
+                );
                 Ok((service, readers))
             }
             Err(error) => {

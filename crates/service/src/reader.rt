@@ -5,7 +5,8 @@ ghost use mathlib.Core.List.{IsPrefix};
 ghost use Rattle.index.specs.State.{state_of};
 ghost use Rattle.prepare.specs.Prepared.{request_of};
 ghost use Rattle.search.specs.Shown.{IsShownOf};
-ghost use Rattle.search.specs.Taken.{IsTakenOf};
+ghost use Rattle.search.specs.Taken.{IsFirstOf, IsTakenOf};
+ghost use Rattle.service.specs.Private.Found.{IsFoundFirst};
 
 use crate::done::Done;
 use crate::gate::{Gate, Point};
@@ -14,7 +15,7 @@ use crate::tasks::{Request, Task};
 use crate::wish::Look;
 use prepare::Prepared;
 use published::Reading;
-use search::{Taken, Unanswered, Watch};
+use search::{First, Taken, Unanswered, Watch};
 use std::alloc::Global;
 use std::marker::PhantomData;
 use std::thread::Threads;
@@ -100,6 +101,17 @@ fn given_up(answer: &Result<Shown, Unanswered>) -> bool {
     }
 }
 
+/// How many candidates a search with a limit takes at first, and twice its limit more. Most of them have a hit, unless
+/// their names are asked for too. To take so few and match their lines takes a small part of a millisecond.
+const FIRST: usize = 64;
+
+/// What was taken for a search, or already its answer.
+#[derive(Drop)]
+enum Found<'p> {
+    Taken(Taken<'p>),
+    Shown(Shown),
+}
+
 /// Takes, calls the gate, and matches. While names and lines are matched, both copies of the index can change.
 ///
 /// `CalledOff` means that the search was given up. `OutOfMemory` means that memory ran out, that a name or a body has
@@ -116,8 +128,11 @@ pub(crate) fn search<G: Gate, W: Watch>(
     ensures seen { IsPrefix reading.old.commands reading.new.commands }
     ensures answer { IfOk result (IsShownOf (state_of reading.new.commands) (request_of prepared.now)) }
 {
-    let taken = take(alloc, reading, prepared, gate, number, watch)?;
-    taken.show(alloc, watch)
+    let found = find(alloc, reading, prepared, gate, number, 0, watch)?;
+    match found {
+        Found::Taken(taken) => taken.show(alloc, watch),
+        Found::Shown(shown) => Ok(shown),
+    }
 }
 
 /// The same, but a large search may go on in so many threads, and some text of the answer is formed.
@@ -137,8 +152,69 @@ fn search_by<R: Threads + Sync, G: Gate, W: Watch + Copy + Send>(
     ensures answer { IfOk result (IsShownOf (state_of reading.new.commands) (request_of prepared.now)) }
 {
     let mut own = watch;
-    let taken = take(alloc, reading, prepared, gate, number, &mut own)?;
-    taken.show_by(rt, alloc, parts, ahead, watch)
+    let found = find(alloc, reading, prepared, gate, number, ahead, &mut own)?;
+    match found {
+        Found::Taken(taken) => taken.show_by(rt, alloc, parts, ahead, watch),
+        Found::Shown(shown) => Ok(shown),
+    }
+}
+
+/// Takes the candidates of a search that is still wanted, and calls the gate. If it has a limit, the first candidates are
+/// taken and matched before all others. If they are not enough, all are taken anew, at the version that is published then,
+/// and the gate is called once more.
+fn find<'p, G: Gate, W: Watch>(
+    alloc: Global,
+    reading: &mut Reading,
+    prepared: &'p Prepared,
+    gate: &G,
+    number: u32,
+    ahead: usize,
+    watch: &mut W,
+) -> Result<Found<'p>, Unanswered>
+    ensures opening { reading.new.opening ≡ reading.old.opening }
+    ensures seen { IsPrefix reading.old.commands reading.new.commands }
+    ensures found { IfOk result (IsFoundFirst (state_of reading.new.commands) (request_of prepared.now)) }
+{
+    let Some(limit) = prepared.limit else {
+        let taken = take(alloc, reading, prepared, gate, number, watch)?;
+        return Ok(Found::Taken(taken));
+    };
+    let most = FIRST.saturating_add((limit as usize).saturating_mul(2));
+    match take_first(alloc, reading, prepared, most, gate, number, watch)? {
+        First::All(taken) => return Ok(Found::Taken(taken)),
+        First::Part(part) => {
+            if let Some(shown) = part.show(alloc, ahead, watch)? {
+                return Ok(Found::Shown(shown));
+            }
+        }
+    }
+    let taken = take(alloc, reading, prepared, gate, number, watch)?;
+    Ok(Found::Taken(taken))
+}
+
+/// Takes the first candidates of a search that is still wanted, and calls the gate.
+fn take_first<'p, G: Gate, W: Watch>(
+    alloc: Global,
+    reading: &mut Reading,
+    prepared: &'p Prepared,
+    most: usize,
+    gate: &G,
+    number: u32,
+    watch: &mut W,
+) -> Result<First<'p>, Unanswered>
+    ensures opening { reading.new.opening ≡ reading.old.opening }
+    ensures seen { IsPrefix reading.old.commands reading.new.commands }
+    ensures first { IfOk result (IsFirstOf (state_of reading.new.commands) (request_of prepared.now)) }
+{
+    if !watch.wants() {
+        return Err(Unanswered::CalledOff);
+    }
+    let Some(Ok(first)) = reading.look(|index| search::take_first(alloc, index, prepared, most))
+    else {
+        return Err(Unanswered::OutOfMemory);
+    };
+    gate.turn(number, Point::Matching);
+    Ok(first)
 }
 
 /// Takes the candidates of a search that is still wanted, and calls the gate.

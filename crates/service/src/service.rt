@@ -29,6 +29,7 @@ use crate::reply::Reply;
 use crate::source::Source;
 use crate::tasks::{Request, Task};
 use crate::wish::{Look, Wish};
+use index::Lengths;
 use input::ReadItem;
 use prepare::Prepared;
 use published::{Counts, Desk, Reading, Told};
@@ -64,6 +65,8 @@ pub struct Service<J: Naming> {
     awaited: Vec<OpenSearch>,
     /// The last answer of each reader, reader 0 first.
     lasts: Vec<Last>,
+    /// How long names, bodies and lines may be.
+    lengths: Lengths,
     /// How many milliseconds a search has at most, if there is such a limit.
     search_ms: Option<u32>,
     of: PhantomData<J>,
@@ -76,10 +79,10 @@ impl<J: Naming> Model for Service<J> {
 
     ghost Value = { ServiceState };
 
-    ghost view = { λ s. service_of s.desk (is_some s.search_ms) s.told s.kept.items s.searches s.awaited.items s.lasts.items };
+    ghost view = { λ s. service_of s.desk s.lengths (is_some s.search_ms) s.told s.kept.items s.searches s.awaited.items s.lasts.items };
 
     ghost invariant = { λ s. (s.desk.opening ≡ J.book) × (s.told.opening ≡ J.book) × (s.reading.opening ≡ J.book)
-        × IsService (service_of s.desk (is_some s.search_ms) s.told s.kept.items s.searches s.awaited.items s.lasts.items)
+        × IsService (service_of s.desk s.lengths (is_some s.search_ms) s.told s.kept.items s.searches s.awaited.items s.lasts.items)
         × (s.desk.published ≡ s.told.commands) };
 }
 
@@ -92,13 +95,14 @@ impl<J: Naming> Service<J> {
         reading: Reading,
         kept: VecDeque<u32>,
         lasts: Vec<Last>,
+        lengths: Lengths,
         search_ms: Option<u32>,
     ) -> Service<J>
         requires opening { (desk.opening ≡ J.book) × (told.opening ≡ J.book) × (reading.opening ≡ J.book) }
         requires empty { (desk.accepted ≡ []) × (desk.published ≡ []) × (told.commands ≡ []) }
         requires kept { kept.items ≡ 0 ∷ [] }
         requires lasts { IsUnused lasts.items }
-        ensures { result ≡ record { limits = record { commands = desk.limit; timed = is_some search_ms }; accepted = []; told = []; kept = 0 ∷ []; searches = 0; awaited = []; lasts = lasts.items } }
+        ensures { result ≡ record { limits = record { commands = desk.limit; lengths = lengths; timed = is_some search_ms }; accepted = []; told = []; kept = 0 ∷ []; searches = 0; awaited = []; lasts = lasts.items } }
     {
         Service {
             desk,
@@ -108,6 +112,7 @@ impl<J: Naming> Service<J> {
             searches: 0,
             awaited: Vec::new(alloc),
             lasts,
+            lengths,
             search_ms,
             of: PhantomData,
         }
@@ -155,7 +160,15 @@ impl<J: Naming> Service<J> {
         ensures few { self.new.searches ≤ self.old.searches + 1 }
     {
         let line = read.line;
-        match carry_out(rt, alloc, &mut self.desk, &mut self.told, source, read) {
+        match carry_out(
+            rt,
+            alloc,
+            &mut self.desk,
+            self.lengths,
+            &mut self.told,
+            source,
+            read,
+        ) {
             Outcome::Entry(entry) => {
                 self.note(&entry);
                 Reply::Entry(entry)
@@ -501,6 +514,7 @@ impl<J: Naming> Service<J> {
             searches: _,
             awaited,
             lasts: _,
+            lengths: _,
             search_ms: _,
             of: _,
         } = self;

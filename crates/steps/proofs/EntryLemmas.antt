@@ -1,6 +1,7 @@
 -- What the entries of items can be, and that they are legal.
 use Rattle.std.proofs.Common.{◌≡◌, ℕ, ◌+◌, ◌≤◌, Bool, true, false, List, [], Option, Some, None, refl, sym, ap, subst, arith}
 use Rattle.index.specs.State.{State}
+use Rattle.index.specs.declared.lengths.Lengths.{Lengths}
 use Rattle.prepare.specs.Request.{Request}
 use Rattle.script.specs.Items.{Item, put, load, remove, publish, search, search_in, find, sync, cancel, status, bad_line, bad_put, truncated, body_not_closed}
 use Rattle.transcript.specs.declared.entry.Entry.{Entry}
@@ -24,22 +25,22 @@ pub data IsPlain (version line : ℕ) (item : Item) (entry : Entry) : Type 0 whe
   refuses : (why : Reason) → entry ≡ Refused line why → (why ≡ reason.OutOfMemory → takes_memory item ≡ true) → IsPlain version line item entry
   publishes : entry ≡ Published line version → IsPlain version line item entry
 
-module _ (most : ℕ) (state : State) (line : ℕ) (item : Item) (entry : Entry) where
+module _ (lengths : Lengths) (most : ℕ) (state : State) (line : ℕ) (item : Item) (entry : Entry) where
   plain_room : IsRoomFor most state line entry → IsPlain state.version line item entry
   plain_room (legal.full limit is) = refuses reason.Full is (λ e. cc)
   plain_room (legal.accepted room is) = accepts (state.version + 1) is
 
-  plain_body : (body : List ℕ) → HasBody most state body line entry → IsPlain state.version line item entry
+  plain_body : (body : List ℕ) → HasBody lengths most state body line entry → IsPlain state.version line item entry
   plain_body body (legal.bad_body fault is_fault is) = refuses (reason.Body fault) is (λ e. cc)
   plain_body body (legal.with_body is_body room) = plain_room room
 
   plain_named : (name : List ℕ) (Else : Type 0) → takes_memory item ≡ true → (Else → IsPlain state.version line item entry)
-      → IsNamed name line entry Else → IsPlain state.version line item entry
+      → IsNamed lengths.name name line entry Else → IsPlain state.version line item entry
   plain_named name Else takes others (legal.bad_name fault other is_fault is) = refuses (reason.Name fault) is (λ e. cc)
   plain_named name Else takes others (legal.no_memory is_name is) = refuses reason.OutOfMemory is (λ e. takes)
   plain_named name Else takes others (legal.named is_name else) = others else
 
-  plain_loaded : (Holds : List ℕ → List ℕ → Type 0) (path : List ℕ) (loaded : Option (List ℕ)) → HasLoaded Holds most state path loaded line entry
+  plain_loaded : (Holds : List ℕ → List ℕ → Type 0) (path : List ℕ) (loaded : Option (List ℕ)) → HasLoaded Holds lengths most state path loaded line entry
       → IsPlain state.version line item entry
   plain_loaded Holds path loaded (legal.failed none is) = refuses reason.CannotLoad is (λ e. cc)
   plain_loaded Holds path loaded (legal.loaded_body body some held with) = plain_body body with
@@ -52,25 +53,25 @@ module _ (most : ℕ) (state : State) (line : ℕ) (item : Item) (entry : Entry)
   plain_publish takes (legal.published is) = publishes is
   plain_publish takes (legal.no_memory is) = refuses reason.OutOfMemory is (λ e. takes)
 
-pub plain_entry : (Holds : List ℕ → List ℕ → Type 0) (most : ℕ) (state : State) (loaded : Option (List ℕ)) (line : ℕ) (item : Item)
-    (entry : Entry) → IsCommandEntry Holds most state loaded line item entry → IsPlain state.version line item entry
-plain_entry Holds most state loaded line (put name body) entry h =
-    plain_named most state line (put name body) entry name _ refl (plain_body most state line (put name body) entry body) h
-plain_entry Holds most state loaded line (load name path) entry h =
-    plain_named most state line (load name path) entry name _ refl (plain_loaded most state line (load name path) entry Holds path loaded) h
-plain_entry Holds most state loaded line (remove name) entry h =
-    plain_named most state line (remove name) entry name _ refl (plain_remove most state line (remove name) entry name) h
-plain_entry Holds most state loaded line publish entry h = plain_publish most state line publish entry refl h
-plain_entry Holds most state loaded line (search case text) entry h = absurd h
-plain_entry Holds most state loaded line (search_in case name_text text) entry h = absurd h
-plain_entry Holds most state loaded line (find text) entry h = absurd h
-plain_entry Holds most state loaded line sync entry h = absurd h
-plain_entry Holds most state loaded line (cancel number) entry h = absurd h
-plain_entry Holds most state loaded line status entry h = absurd h
-plain_entry Holds most state loaded line bad_line entry h = refuses reason.BadLine h (λ e. cc)
-plain_entry Holds most state loaded line bad_put entry h = refuses reason.BadPut h (λ e. cc)
-plain_entry Holds most state loaded line truncated entry h = refuses reason.Truncated h (λ e. cc)
-plain_entry Holds most state loaded line body_not_closed entry h = refuses reason.BodyNotClosed h (λ e. cc)
+pub plain_entry : (Holds : List ℕ → List ℕ → Type 0) (lengths : Lengths) (most : ℕ) (state : State) (loaded : Option (List ℕ)) (line : ℕ) (item : Item)
+    (entry : Entry) → IsCommandEntry Holds lengths most state loaded line item entry → IsPlain state.version line item entry
+plain_entry Holds lengths most state loaded line (put name body) entry h =
+    plain_named lengths most state line (put name body) entry name _ refl (plain_body lengths most state line (put name body) entry body) h
+plain_entry Holds lengths most state loaded line (load name path) entry h =
+    plain_named lengths most state line (load name path) entry name _ refl (plain_loaded lengths most state line (load name path) entry Holds path loaded) h
+plain_entry Holds lengths most state loaded line (remove name) entry h =
+    plain_named lengths most state line (remove name) entry name _ refl (plain_remove lengths most state line (remove name) entry name) h
+plain_entry Holds lengths most state loaded line publish entry h = plain_publish lengths most state line publish entry refl h
+plain_entry Holds lengths most state loaded line (search case text) entry h = absurd h
+plain_entry Holds lengths most state loaded line (search_in case name_text text) entry h = absurd h
+plain_entry Holds lengths most state loaded line (find text) entry h = absurd h
+plain_entry Holds lengths most state loaded line sync entry h = absurd h
+plain_entry Holds lengths most state loaded line (cancel number) entry h = absurd h
+plain_entry Holds lengths most state loaded line status entry h = absurd h
+plain_entry Holds lengths most state loaded line bad_line entry h = refuses reason.BadLine h (λ e. cc)
+plain_entry Holds lengths most state loaded line bad_put entry h = refuses reason.BadPut h (λ e. cc)
+plain_entry Holds lengths most state loaded line truncated entry h = refuses reason.Truncated h (λ e. cc)
+plain_entry Holds lengths most state loaded line body_not_closed entry h = refuses reason.BodyNotClosed h (λ e. cc)
 
 -- What holds of such entries holds of this one.
 pub plain_by : {version line : ℕ} {item : Item} {entry : Entry} → IsPlain version line item entry → (P : Entry → Type 0)
@@ -86,8 +87,8 @@ plain_rises latest version le is =
     plain_by is (λ e. Rises latest (version_in (Some e)) × (last_or latest (version_in (Some e)) ≤ version)) (λ count. (tt, le)) (λ why. (tt, le))
     ((le, tt), omega arith)
 
-module _ (Holds : List ℕ → List ℕ → Type 0) (most : ℕ) (state : State) (loaded : Option (List ℕ)) (line : ℕ) where
-  pub command_is_no_search : (item : Item) (entry : Entry) → IsCommandEntry Holds most state loaded line item entry → searches_of item ≡ 0
+module _ (Holds : List ℕ → List ℕ → Type 0) (lengths : Lengths) (most : ℕ) (state : State) (loaded : Option (List ℕ)) (line : ℕ) where
+  pub command_is_no_search : (item : Item) (entry : Entry) → IsCommandEntry Holds lengths most state loaded line item entry → searches_of item ≡ 0
   command_is_no_search (search case text) entry h = absurd h
   command_is_no_search (search_in case name_text text) entry h = absurd h
   command_is_no_search (find text) entry h = absurd h
@@ -135,7 +136,7 @@ module _ (Holds : List ℕ → List ℕ → Type 0) (limits : Limits) (context :
   legal_sync item is = cc
 
   pub legal_command : (item : Item) (entry : Entry)
-      → IsCommandEntry Holds limits.commands (state_before context) context.row.loaded context.row.numbered.line item entry
+      → IsCommandEntry Holds limits.lengths limits.commands (state_before context) context.row.loaded context.row.numbered.line item entry
       → HasEntry Holds limits context item (Some entry)
   unfolding IsEntryOf
   legal_command (search case text) entry h = absurd h

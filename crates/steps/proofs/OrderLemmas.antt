@@ -130,7 +130,7 @@ module _ (entries : List Entry) (s : RunState) (old : AreInOrder entries s) wher
   order_step Holds limits readers taken written s' (steps.carried_out item loaded entry may h takes writes same) =
       order_push entry written s' writes
       (quiet_entry entry s'
-      (plain_by (plain_entry Holds limits.commands (state_of s.accepted) loaded item.line item.item entry h) (λ e. given_in (Some e) ≡ []) (λ count. refl)
+      (plain_by (plain_entry Holds limits.lengths limits.commands (state_of s.accepted) loaded item.line item.item entry h) (λ e. given_in (Some e) ≡ []) (λ count. refl)
       (λ why. refl) refl) (ap (λ t. t.published) same) (ap (λ t. t.lasts) same))
   order_step Holds limits readers taken written s' (steps.asked_for item request may asks takes writes same) =
       order_stays written s' writes (ap (λ t. t.published) same) (ap (λ t. t.lasts) same)
@@ -240,7 +240,7 @@ module _ (number least : ℕ) (entries : List Entry) (s : RunState) (old : AreNo
       (subst (AllByRecursion IsBound) (sym (ap (λ t. t.awaited) same)) old.waiting)
       (λ reader turn answer is.
       let quiet : given_in (Some entry) ≡ [] =
-      plain_by (plain_entry Holds limits.commands (state_of s.accepted) loaded item.line item.item entry h) (λ e. given_in (Some e) ≡ []) (λ count. refl)
+      plain_by (plain_entry Holds limits.lengths limits.commands (state_of s.accepted) loaded item.line item.item entry h) (λ e. given_in (Some e) ≡ []) (λ count. refl)
       (λ why. refl) refl in
       let no = sym quiet ∙ ap (λ e. given_in (Some e)) is in absurd (cc))
   older_step Holds limits readers taken written s' (steps.asked_for item request may asks takes writes same) =

@@ -70,17 +70,17 @@ module _ (Holds : List ℕ → List ℕ → Type 0) (limits : Limits) (readers :
   pushed row s' taken written takes writes push = (rows ++ row ∷ [], more row push.own takes writes refl, rows_pushed Holds limits readers s rows row s' are push)
 
   carried_out : (item : Numbered) (loaded : Option (List ℕ)) (entry : Entry) (s' : RunState) → MayTake readers s item.item
-      → IsCommandEntry Holds limits.commands (state_of s.accepted) loaded item.line item.item entry → s' ≡ with_entry item.item loaded entry s
+      → IsCommandEntry Holds limits.lengths limits.commands (state_of s.accepted) loaded item.line item.item entry → s' ≡ with_entry item.item loaded entry s
       → IsPushed Holds limits readers s rows (row_of item loaded (Some entry)) s'
   carried_out item loaded entry s' may h same =
       let plain : IsPlain (length s.accepted) item.line item.item entry =
-      plain_entry Holds limits.commands (state_of s.accepted) loaded item.line item.item entry h in
+      plain_entry Holds limits.lengths limits.commands (state_of s.accepted) loaded item.line item.item entry h in
       let rises = plain_rises (latest s) (length s.accepted) are.within plain in
       record {
         stands =
             legal (λ before after more e e' rises.
             legal_command Holds limits (record { readers = readers; before = before; row = row_of item loaded (Some entry); after = after }) item.item entry
-            (subst (λ c. IsCommandEntry Holds limits.commands (state_of c) loaded item.line item.item entry) (are.accepted ∙ sym (same_commands before rows e)) h));
+            (subst (λ c. IsCommandEntry Holds limits.lengths limits.commands (state_of c) loaded item.line item.item entry) (are.accepted ∙ sym (same_commands before rows e)) h));
         may = may_take item.item may;
         accepted = ap (λ t. t.accepted) same;
         published = ap (λ t. t.published) same;
@@ -90,7 +90,7 @@ module _ (Holds : List ℕ → List ℕ → Type 0) (limits : Limits) (readers :
             omega (
               arith,
               ap (λ t. t.searches) same,
-              command_is_no_search Holds limits.commands (state_of s.accepted) loaded item.line item.item entry h,
+              command_is_no_search Holds limits.lengths limits.commands (state_of s.accepted) loaded item.line item.item entry h,
             );
         awaited =
             ap (λ t. t.awaited) same ∙ sym (append-nil s.awaited)
@@ -100,7 +100,7 @@ module _ (Holds : List ℕ → List ℕ → Type 0) (limits : Limits) (readers :
         own =
             own_entry (row_of item loaded (Some entry)) entry refl
             (plain_by plain (λ e. searches_in e ≡ 0) (λ count. refl) (λ why. refl) refl
-            ∙ sym (command_is_no_search Holds limits.commands (state_of s.accepted) loaded item.line item.item entry h));
+            ∙ sym (command_is_no_search Holds limits.lengths limits.commands (state_of s.accepted) loaded item.line item.item entry h));
       }
 
   asked_for : (item : Numbered) (request : Request) (s' : RunState) → MayTake readers s item.item → Asks item.item request

@@ -66,7 +66,7 @@ module _ (Holds : List ℕ → List ℕ → Type 0) (limits : Limits) (readers :
       → takes_memory item.item ≡ true
   memory_refusal line is (steps.carried_out other loaded entry may h takes writes same) =
       ap (λ n. takes_memory n.item) (sym (taken_is takes))
-      ∙ by (plain_entry Holds limits.commands (state_of s.accepted) loaded other.line other.item entry h) (let e = sym writes ∙ is in cc)
+      ∙ by (plain_entry Holds limits.lengths limits.commands (state_of s.accepted) loaded other.line other.item entry h) (let e = sym writes ∙ is in cc)
     where
       by : {version line' : ℕ} {item' : Item} {entry' : Entry} → IsPlain version line' item' entry' → entry' ≡ Refused line reason.OutOfMemory
           → takes_memory item' ≡ true
@@ -90,10 +90,10 @@ module _ (Holds : List ℕ → List ℕ → Type 0) (limits : Limits) (readers :
     wish_is e = ap (λ n. n.item) (taken_is e) ∙ is
 
     no_command : {x : Numbered} (loaded : Option (List ℕ)) (line : ℕ) (entry : Entry)
-        → (IsCommandEntry Holds limits.commands (state_of s.accepted) loaded line wish entry → ⊥) → item ∷ [] ≡ x ∷ []
-        → IsCommandEntry Holds limits.commands (state_of s.accepted) loaded line x.item entry → ⊥
+        → (IsCommandEntry Holds limits.lengths limits.commands (state_of s.accepted) loaded line wish entry → ⊥) → item ∷ [] ≡ x ∷ []
+        → IsCommandEntry Holds limits.lengths limits.commands (state_of s.accepted) loaded line x.item entry → ⊥
     no_command {x} loaded line entry never takes h =
-        never (subst (λ i. IsCommandEntry Holds limits.commands (state_of s.accepted) loaded line i entry) (wish_is takes) h)
+        never (subst (λ i. IsCommandEntry Holds limits.lengths limits.commands (state_of s.accepted) loaded line i entry) (wish_is takes) h)
 
     no_search_asked : {x : Numbered} → searches_of wish ≡ 0 → item ∷ [] ≡ x ∷ [] → searches_of x.item ≡ 1 → ⊥
     no_search_asked never takes one = omega (arith, never, one, ap searches_of (wish_is takes))
@@ -155,7 +155,7 @@ module _ (Holds : List ℕ → List ℕ → Type 0) (limits : Limits) (readers :
 -- The lines of the entries are those of the items that are neither searches nor syncs, but for cancels that have none.
 module _ (Holds : List ℕ → List ℕ → Type 0) (limits : Limits) (readers : ℕ) where
   line_of_command : (s : RunState) (loaded : Option (List ℕ)) (line : ℕ) (item : Item) (entry : Entry)
-      → IsCommandEntry Holds limits.commands (state_of s.accepted) loaded line item entry → command_line line item ≡ line ∷ []
+      → IsCommandEntry Holds limits.lengths limits.commands (state_of s.accepted) loaded line item entry → command_line line item ≡ line ∷ []
   line_of_command s loaded line (search case text) entry h = absurd h
   line_of_command s loaded line (search_in case name_text text) entry h = absurd h
   line_of_command s loaded line (find text) entry h = absurd h
@@ -193,7 +193,7 @@ module _ (Holds : List ℕ → List ℕ → Type 0) (limits : Limits) (readers :
     step_lines s s' (steps.carried_out item loaded entry may h takes writes same) =
         line_of item (item.line ∷ []) takes (line_of_command s loaded item.line item.item entry h)
         (ap lines_in writes
-        ∙ plain_by (plain_entry Holds limits.commands (state_of s.accepted) loaded item.line item.item entry h) (λ e. line_in e ++ [] ≡ item.line ∷ [])
+        ∙ plain_by (plain_entry Holds limits.lengths limits.commands (state_of s.accepted) loaded item.line item.item entry h) (λ e. line_in e ++ [] ≡ item.line ∷ [])
         (λ count. refl) (λ why. refl) refl)
     step_lines s s' (steps.asked_for item request may asks takes writes same) =
         line_of item [] takes (no_line_of_search item.line item.item (asks_is_search item.item request asks)) (ap lines_in writes)
@@ -238,7 +238,7 @@ module _ (Holds : List ℕ → List ℕ → Type 0) (limits : Limits) (readers :
       → AllByRecursion (λ e. is_timely e ≡ true) written
   step_timely s taken written s' (steps.carried_out item loaded entry may h takes writes same) =
       one_timely entry written writes
-      (plain_by (plain_entry Holds limits.commands (state_of s.accepted) loaded item.line item.item entry h) (λ e. is_timely e ≡ true)
+      (plain_by (plain_entry Holds limits.lengths limits.commands (state_of s.accepted) loaded item.line item.item entry h) (λ e. is_timely e ≡ true)
       (λ count. refl) (λ why. refl) refl)
   step_timely s taken written s' (steps.asked_for item request may asks takes writes same) = none_timely written writes
   step_timely s taken written s' (steps.refused item why may fault takes writes same) =
@@ -269,7 +269,7 @@ module _ (Holds : List ℕ → List ℕ → Type 0) (limits : Limits) (readers :
   pub refused_by_cancel : IsStep Holds limits readers s taken written s' → (line : ℕ) × (taken ≡ numbered line (cancel number) ∷ [])
   refused_by_cancel (steps.carried_out item loaded entry may h takes writes same) =
       absurd
-      (plain_by (plain_entry Holds limits.commands (state_of s.accepted) loaded item.line item.item entry h)
+      (plain_by (plain_entry Holds limits.lengths limits.commands (state_of s.accepted) loaded item.line item.item entry h)
       (λ e. e ≡ SearchRefused number search_reason.Cancelled → ⊥) (λ count e. cc) (λ why e. cc) (λ e. cc) (let e = sym writes ∙ is in cc))
   refused_by_cancel (steps.asked_for item request may asks takes writes same) = cc
   refused_by_cancel (steps.refused item why may fault takes writes same) =
@@ -387,14 +387,14 @@ module _ (Holds : List ℕ → List ℕ → Type 0) (limits : Limits) (readers :
 
   step_counted : IsStep Holds limits readers s taken written s' → IsStepCounted s taken written s'
   step_counted (steps.carried_out item loaded entry may h takes writes same) =
-      no_search item takes (command_is_no_search Holds limits.commands (state_of s.accepted) loaded item.line item.item entry h)
+      no_search item takes (command_is_no_search Holds limits.lengths limits.commands (state_of s.accepted) loaded item.line item.item entry h)
       (ap (λ t. t.searches) same) (ap (λ t. t.awaited) same)
       (λ number.
       ap (count_of number) writes
-      ∙ plain_by (plain_entry Holds limits.commands (state_of s.accepted) loaded item.line item.item entry h) (λ e. count_of number (e ∷ []) ≡ 0)
+      ∙ plain_by (plain_entry Holds limits.lengths limits.commands (state_of s.accepted) loaded item.line item.item entry h) (λ e. count_of number (e ∷ []) ≡ 0)
       (λ count. refl) (λ why. refl) refl)
       (ap (sum_by searches_in) writes
-      ∙ plain_by (plain_entry Holds limits.commands (state_of s.accepted) loaded item.line item.item entry h) (λ e. sum_by searches_in (e ∷ []) ≡ 0)
+      ∙ plain_by (plain_entry Holds limits.lengths limits.commands (state_of s.accepted) loaded item.line item.item entry h) (λ e. sum_by searches_in (e ∷ []) ≡ 0)
       (λ count. refl) (λ why. refl) refl)
   step_counted (steps.asked_for item request may asks takes writes same) =
       let is_one : searches_among taken ≡ 1 = omega (arith, ap searches_among takes, asks_is_search item.item request asks) in

@@ -5,9 +5,10 @@ use Rattle.index.specs.declared.error.NameError.{NameError}
 use Rattle.index.specs.declared.error.NameError.TheVariants as name_error
 use Rattle.index.specs.declared.error.BodyErrorKind.{BodyErrorKind}
 use Rattle.index.specs.declared.command.Command.{Command}
+use Rattle.index.specs.declared.lengths.Lengths.{Lengths}
 use Rattle.index.specs.Documents.{Document, number_of}
 use Rattle.index.specs.State.{State, state_of, body_bytes}
-use Rattle.index.specs.Text.{IsName, IsNameFault, IsBody, IsBodyFault}
+use Rattle.index.specs.Text.{IsNameOf, IsNameFault, IsBodyOf, IsBodyFault}
 use Rattle.prepare.specs.Request.{Request}
 use Rattle.search.specs.Shown.{IsShownOf}
 use Rattle.views.specs.Shown.{Shown}
@@ -20,9 +21,11 @@ use Rattle.transcript.specs.declared.entry.SearchReason.TheVariants as search_re
 use Rattle.steps.specs.Asked.{Asks, IsFaultOf}
 use Rattle.steps.specs.Rows.{Row, commands_of, published_in, published_last, before_sync, count_searches}
 
--- What bounds a run. commands: how many commands are accepted at most. timed: whether searches have a limit of time.
+-- What bounds a run. commands: how many commands are accepted at most. lengths: how long names, bodies and lines may be.
+-- timed: whether searches have a limit of time.
 pub record Limits : Type 0 where
   pub commands : ℕ
+  pub lengths : Lengths
   pub timed : Bool
 
 -- What becomes of a command in which nothing is wrong: it is accepted if there is room for it.
@@ -30,27 +33,29 @@ pub data IsRoomFor (most : ℕ) (state : State) (line : ℕ) (entry : Entry) : T
   full : state.version ≡ most → entry ≡ Refused line reason.Full → IsRoomFor most state line entry
   accepted : state.version < most → entry ≡ Accepted line (state.version + 1) → IsRoomFor most state line entry
 
--- Faults of a name come first. Only a command with a valid name can be refused for memory.
-pub data IsNamed (name : List ℕ) (line : ℕ) (entry : Entry) (Else : Type 0) : Type 0 where
-  bad_name : (fault : NameError) → (fault ≡ name_error.OutOfMemory → ⊥) → IsNameFault fault name → entry ≡ Refused line (reason.Name fault)
-      → IsNamed name line entry Else
-  no_memory : IsName name → entry ≡ Refused line reason.OutOfMemory → IsNamed name line entry Else
-  named : IsName name → Else → IsNamed name line entry Else
+-- Faults of a name come first. Only a command with a valid name can be refused for memory. longest: how long a name may be.
+pub data IsNamed (longest : ℕ) (name : List ℕ) (line : ℕ) (entry : Entry) (Else : Type 0) : Type 0 where
+  bad_name : (fault : NameError) → (fault ≡ name_error.OutOfMemory → ⊥) → IsNameFault longest fault name
+      → entry ≡ Refused line (reason.Name fault) → IsNamed longest name line entry Else
+  no_memory : IsNameOf longest name → entry ≡ Refused line reason.OutOfMemory → IsNamed longest name line entry Else
+  named : IsNameOf longest name → Else → IsNamed longest name line entry Else
 
 -- then faults of the body, then lack of room
-pub data HasBody (most : ℕ) (state : State) (body : List ℕ) (line : ℕ) (entry : Entry) : Type 0 where
-  bad_body : (fault : BodyErrorKind) → IsBodyFault fault body → entry ≡ Refused line (reason.Body fault) → HasBody most state body line entry
-  with_body : IsBody body → IsRoomFor most state line entry → HasBody most state body line entry
+pub data HasBody (lengths : Lengths) (most : ℕ) (state : State) (body : List ℕ) (line : ℕ) (entry : Entry) : Type 0 where
+  bad_body : (fault : BodyErrorKind) → IsBodyFault lengths fault body → entry ≡ Refused line (reason.Body fault)
+      → HasBody lengths most state body line entry
+  with_body : IsBodyOf lengths body → IsRoomFor most state line entry → HasBody lengths most state body line entry
 
 -- What the entry of a put may be: the name has a fault or, if not, the body has one, there is no room, or the put is accepted.
-abbrev pub IsPut : ℕ → State → List ℕ → List ℕ → ℕ → Entry → Type 0
-IsPut most state name body line entry = IsNamed name line entry (HasBody most state body line entry)
+abbrev pub IsPut : Lengths → ℕ → State → List ℕ → List ℕ → ℕ → Entry → Type 0
+IsPut lengths most state name body line entry = IsNamed lengths.name name line entry (HasBody lengths most state body line entry)
 
 -- A load has one outcome: it cannot load, since the source failed, or the source held the loaded bytes under the path.
-pub data HasLoaded (Holds : List ℕ → List ℕ → Type 0) (most : ℕ) (state : State) (path : List ℕ) (loaded : Option (List ℕ)) (line : ℕ)
-    (entry : Entry) : Type 0 where
-  failed : loaded ≡ None → entry ≡ Refused line reason.CannotLoad → HasLoaded Holds most state path loaded line entry
-  loaded_body : (body : List ℕ) → loaded ≡ Some body → Holds path body → HasBody most state body line entry → HasLoaded Holds most state path loaded line entry
+pub data HasLoaded (Holds : List ℕ → List ℕ → Type 0) (lengths : Lengths) (most : ℕ) (state : State) (path : List ℕ) (loaded : Option (List ℕ))
+    (line : ℕ) (entry : Entry) : Type 0 where
+  failed : loaded ≡ None → entry ≡ Refused line reason.CannotLoad → HasLoaded Holds lengths most state path loaded line entry
+  loaded_body : (body : List ℕ) → loaded ≡ Some body → Holds path body → HasBody lengths most state body line entry
+      → HasLoaded Holds lengths most state path loaded line entry
 
 -- A remove needs a document of that name after all accepted commands.
 pub data IsRemove (most : ℕ) (state : State) (name : List ℕ) (line : ℕ) (entry : Entry) : Type 0 where
@@ -153,21 +158,21 @@ pub record IsStatus (limits : Limits) (context : Context) (line : ℕ) (entry : 
   pub shown : entry ≡ status_entry line (published_last context.before) (commands_of context.before) limits.commands waiting
 
 -- A command, a publish or a fault of the script can have this entry, in this state of the documents.
-abbrev pub IsCommandEntry : (List ℕ → List ℕ → Type 0) → ℕ → State → Option (List ℕ) → ℕ → Item → Entry → Type 0
-IsCommandEntry Holds most state loaded line (put name body) entry = IsPut most state name body line entry
-IsCommandEntry Holds most state loaded line (load name path) entry = IsNamed name line entry (HasLoaded Holds most state path loaded line entry)
-IsCommandEntry Holds most state loaded line (remove name) entry = IsNamed name line entry (IsRemove most state name line entry)
-IsCommandEntry Holds most state loaded line publish entry = IsPublish state line entry
-IsCommandEntry Holds most state loaded line (search case text) entry = ⊥
-IsCommandEntry Holds most state loaded line (search_in case name_text text) entry = ⊥
-IsCommandEntry Holds most state loaded line (find text) entry = ⊥
-IsCommandEntry Holds most state loaded line sync entry = ⊥
-IsCommandEntry Holds most state loaded line (cancel number) entry = ⊥
-IsCommandEntry Holds most state loaded line status entry = ⊥
-IsCommandEntry Holds most state loaded line bad_line entry = entry ≡ Refused line reason.BadLine
-IsCommandEntry Holds most state loaded line bad_put entry = entry ≡ Refused line reason.BadPut
-IsCommandEntry Holds most state loaded line truncated entry = entry ≡ Refused line reason.Truncated
-IsCommandEntry Holds most state loaded line body_not_closed entry = entry ≡ Refused line reason.BodyNotClosed
+abbrev pub IsCommandEntry : (List ℕ → List ℕ → Type 0) → Lengths → ℕ → State → Option (List ℕ) → ℕ → Item → Entry → Type 0
+IsCommandEntry Holds lengths most state loaded line (put name body) entry = IsPut lengths most state name body line entry
+IsCommandEntry Holds lengths most state loaded line (load name path) entry = IsNamed lengths.name name line entry (HasLoaded Holds lengths most state path loaded line entry)
+IsCommandEntry Holds lengths most state loaded line (remove name) entry = IsNamed lengths.name name line entry (IsRemove most state name line entry)
+IsCommandEntry Holds lengths most state loaded line publish entry = IsPublish state line entry
+IsCommandEntry Holds lengths most state loaded line (search case text) entry = ⊥
+IsCommandEntry Holds lengths most state loaded line (search_in case name_text text) entry = ⊥
+IsCommandEntry Holds lengths most state loaded line (find text) entry = ⊥
+IsCommandEntry Holds lengths most state loaded line sync entry = ⊥
+IsCommandEntry Holds lengths most state loaded line (cancel number) entry = ⊥
+IsCommandEntry Holds lengths most state loaded line status entry = ⊥
+IsCommandEntry Holds lengths most state loaded line bad_line entry = entry ≡ Refused line reason.BadLine
+IsCommandEntry Holds lengths most state loaded line bad_put entry = entry ≡ Refused line reason.BadPut
+IsCommandEntry Holds lengths most state loaded line truncated entry = entry ≡ Refused line reason.Truncated
+IsCommandEntry Holds lengths most state loaded line body_not_closed entry = entry ≡ Refused line reason.BodyNotClosed
 
 -- In this context, the item can have this entry.
 unfoldable pub IsEntryOf : (List ℕ → List ℕ → Type 0) → Limits → Context → ℕ → Item → Entry → Type 0
@@ -176,7 +181,7 @@ IsEntryOf Holds limits context line (search_in case name_text text) entry = IsSe
 IsEntryOf Holds limits context line (find text) entry = IsSearch limits context (find text) entry
 IsEntryOf Holds limits context line (cancel number) entry = IsUnknown number (count_searches context.before) line entry
 IsEntryOf Holds limits context line status entry = IsStatus limits context line entry
-IsEntryOf Holds limits context line item entry = IsCommandEntry Holds limits.commands (state_before context) context.row.loaded line item entry
+IsEntryOf Holds limits context line item entry = IsCommandEntry Holds limits.lengths limits.commands (state_before context) context.row.loaded line item entry
 
 -- A sync has no entry, and neither has a cancel of a search that was asked. Every other item has one.
 abbrev pub HasEntry : (List ℕ → List ℕ → Type 0) → Limits → Context → Item → Option Entry → Type 0

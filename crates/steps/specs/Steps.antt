@@ -108,7 +108,7 @@ pub record IsAnswerNow (s : RunState) (search : OpenSearch) (reader turn : ℕ) 
 pub data IsStep (Holds : List ℕ → List ℕ → Type 0) (limits : Limits) (readers : ℕ) (s : RunState) (taken : List Numbered) (written : List Entry)
     (s' : RunState) : Type 0 where
   carried_out : (item : Numbered) (loaded : Option (List ℕ)) (entry : Entry) → MayTake readers s item.item
-      → IsCommandEntry Holds limits.commands (state_of s.accepted) loaded item.line item.item entry
+      → IsCommandEntry Holds limits.lengths limits.commands (state_of s.accepted) loaded item.line item.item entry
       → taken ≡ item ∷ [] → written ≡ entry ∷ [] → s' ≡ with_entry item.item loaded entry s → IsStep Holds limits readers s taken written s'
   asked_for : (item : Numbered) (request : Request) → MayTake readers s item.item → Asks item.item request
       → taken ≡ item ∷ [] → written ≡ [] → s' ≡ with_search item.item s → IsStep Holds limits readers s taken written s'

@@ -15,7 +15,7 @@ use std::alloc::Global;
 use std::io::{Error, ErrorKind, Write};
 use std::thread::Threads;
 use thiserror::Error;
-use views::{Lines, PIECE, Part, PartText, append_lines, form_lines};
+use views::{Lines, PIECE, Passage, PassageText, append_lines, form_lines};
 
 /// Text is written once there are this many bytes of it.
 const PART: usize = 65_536;
@@ -102,7 +102,7 @@ fn write_parts<R: Threads + Sync, W: Write>(
     rt: &R,
     alloc: Global,
     threads: usize,
-    parts: &[Part],
+    parts: &[Passage],
     text: &mut Vec<u8>,
     out: &mut W,
 ) -> Result<(), WriteError>
@@ -110,7 +110,7 @@ fn write_parts<R: Threads + Sync, W: Write>(
     ensures err { OnErr result (AppendsFront (W.contents out.old) (W.contents out.new) (text.old.items ++ text_of_parts parts.now)) }
 {
     for part in parts {
-        let PartText {
+        let PassageText {
             formed,
             lines,
             zero,

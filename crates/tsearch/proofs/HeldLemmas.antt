@@ -11,13 +11,13 @@ use Rattle.steps.specs.StepRows as rows_of
 
 module _ (H H' : List ℕ → List ℕ → Type 0) (more : (path body : List ℕ) → H path body → H' path body) (limits : Limits) where
   module _ (context : Context) (line : ℕ) (entry : Entry) where
-    loaded_mapped : (path : List ℕ) → HasLoaded H limits.commands (state_before context) path context.row.loaded line entry
-        → HasLoaded H' limits.commands (state_before context) path context.row.loaded line entry
+    loaded_mapped : (path : List ℕ) → HasLoaded H limits.lengths limits.commands (state_before context) path context.row.loaded line entry
+        → HasLoaded H' limits.lengths limits.commands (state_before context) path context.row.loaded line entry
     loaded_mapped path (legal.failed none is) = legal.failed none is
     loaded_mapped path (legal.loaded_body body some held with) = legal.loaded_body body some (more path body held) with
 
-    load_mapped : (name path : List ℕ) → IsNamed name line entry (HasLoaded H limits.commands (state_before context) path context.row.loaded line entry)
-        → IsNamed name line entry (HasLoaded H' limits.commands (state_before context) path context.row.loaded line entry)
+    load_mapped : (name path : List ℕ) → IsNamed limits.lengths.name name line entry (HasLoaded H limits.lengths limits.commands (state_before context) path context.row.loaded line entry)
+        → IsNamed limits.lengths.name name line entry (HasLoaded H' limits.lengths limits.commands (state_before context) path context.row.loaded line entry)
     load_mapped name path (legal.bad_name fault other is_fault is) = legal.bad_name fault other is_fault is
     load_mapped name path (legal.no_memory is_name is) = legal.no_memory is_name is
     load_mapped name path (legal.named is_name else) = legal.named is_name (loaded_mapped path else)

@@ -72,8 +72,7 @@ none_of_none (Some e') is = cc
 
 no_sync_shown : (o : OwnedItem) (i : Item) → o ≢ owned.Sync → ShowsOwned o i → is_sync i ≡ false
 no_sync_shown (owned.Put name body) i other shows = ap is_sync shows
-no_sync_shown (owned.LongPut name) i other shows = ap is_sync shows.1
-no_sync_shown (owned.LostPut name) i other shows = ap is_sync shows.1
+no_sync_shown (owned.SkippedPut name size) i other shows = ap is_sync shows.1
 no_sync_shown (owned.Load name path) i other shows = ap is_sync shows
 no_sync_shown (owned.Remove name) i other shows = ap is_sync shows
 no_sync_shown owned.Publish i other shows = ap is_sync shows

@@ -9,7 +9,7 @@ use Rattle.tsearch.specs.declared.run.Options.{Options}
 
 -- what bounds a run with these options
 abbrev pub limits_in : Options → Limits
-limits_in options = record { commands = options.max_commands; timed = is_some options.search_ms }
+limits_in options = record { commands = options.max_commands; lengths = options.lengths; timed = is_some options.search_ms }
 
 -- The transcript is legal. Its rows are, and legal steps take its items: they lead from the first state to one in which no
 -- search is open, and write its entries, in the order in which searches got theirs. Holds: what the source held. failed,

@@ -13,7 +13,7 @@ use Rattle.tsearch.specs.declared.serving.LiveOptions.{LiveOptions}
 
 -- what bounds a session with these options
 abbrev pub limits_in : LiveOptions → Limits
-limits_in options = record { commands = options.max_commands; timed = is_some options.search_ms }
+limits_in options = record { commands = options.max_commands; lengths = options.lengths; timed = is_some options.search_ms }
 
 -- Legal steps from the first state take these items and write these entries. Holds: what the source held. failed, failed':
 -- how often the source had failed, before and after.

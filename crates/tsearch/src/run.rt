@@ -12,6 +12,7 @@ use crate::crew::{Crew, Lent};
 use crate::error::LiveError;
 use crate::items::{Plan, carry_out_all};
 use core::mem::replace_with;
+use index::Lengths;
 use input::{Feed, Inbox};
 use published::OpenError;
 use script::MAX_SCRIPT;
@@ -32,6 +33,8 @@ pub struct Options {
     pub readers: u32,
     /// How many commands are accepted at most, 1 to 4,294,967,294.
     pub max_commands: u32,
+    /// How long names, bodies and lines may be.
+    pub lengths: Lengths,
     /// After how many milliseconds a search that has no answer yet is given up, if there is such a limit.
     pub search_ms: Option<u32>,
 }
@@ -93,6 +96,7 @@ pub fn run<R: Threads + Wait + Clock + Sync, S: Source + Drop, G: Gate>(
         rt,
         alloc,
         options.max_commands,
+        options.lengths,
         options.search_ms,
         options.readers,
     ) {
@@ -148,7 +152,7 @@ fn run_as<
     let mut service = service;
     let (book, front) = history.named::<K>();
     let inbox = Inbox::new(alloc, front.again());
-    let feed = Feed::new(alloc, book, front, script);
+    let feed = Feed::new(alloc, book, front, script, options.lengths.most_bytes());
     let of = PhantomData;
     let lent = Lent {
         rt,

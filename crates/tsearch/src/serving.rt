@@ -11,6 +11,7 @@ use crate::crew::Crew;
 use crate::error::{LiveError, of_opening};
 use crate::items::{Plan, carry_out_all};
 use crate::written::Written;
+use index::Lengths;
 use input::{Feed, Inbox};
 use service::{Gate, Reader, Service, Source, open};
 use std::alloc::Global;
@@ -27,6 +28,8 @@ pub struct LiveOptions {
     pub readers: u32,
     /// How many commands are accepted at most, 1 to 4,294,967,294.
     pub max_commands: u32,
+    /// How long names, bodies and lines may be.
+    pub lengths: Lengths,
     /// After how many milliseconds a search that has no answer yet is given up, if there is such a limit.
     pub search_ms: Option<u32>,
     /// Whether each answer also shows its number of candidates and of documents.
@@ -89,6 +92,7 @@ pub fn serve<
         rt,
         alloc,
         options.max_commands,
+        options.lengths,
         options.search_ms,
         options.readers,
     ) {
@@ -138,7 +142,7 @@ fn serve_as<
     let mut service = service;
     let (book, front) = history.named::<K>();
     let inbox = Inbox::new(alloc, front.again());
-    let feed = Feed::new(alloc, book, front, input);
+    let feed = Feed::new(alloc, book, front, input, options.lengths.most_bytes());
     let crew = Crew::start(rt, alloc, feed, readers, gate);
     let served = serve_all(rt, alloc, options, &mut service, crew, inbox, source, out);
     service.close(rt);
@@ -181,7 +185,7 @@ fn serve_all<
     };
     let mut crew = crew;
     let mut inbox = inbox;
-    let mut written = Written::new(alloc, options.stats);
+    let mut written = Written::new(alloc, options.stats, options.readers as usize + 1);
     match carry_out_all(
         &plan,
         service,

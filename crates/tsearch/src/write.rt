@@ -11,17 +11,16 @@ use std::io::Write;
 use std::thread::Threads;
 use transcript::{Entry, flush_whole, write_entry, write_whole};
 
-/// The session itself forms the text that is not formed with an answer.
-const THREADS: usize = 1;
-
 /// Writes the text of an entry and flushes it. For an entry without text, nothing is written or flushed. `text` is a
-/// buffer; its old bytes do not matter.
+/// buffer; its old bytes do not matter. What is not formed with a large answer is formed in up to `threads` threads (see
+/// `write_entry`).
 ///
 /// An `Err` is `CannotWrite` if the output failed or took no byte, `OutputClosed` if nobody reads it any more, or
 /// `OutOfMemory` if there is no memory for the text. A beginning of the text is then written.
 pub(crate) fn write_now<R: Threads + Sync, O: Write>(
     rt: &R,
     alloc: Global,
+    threads: usize,
     entry: &Entry,
     stats: bool,
     text: &mut Vec<u8>,
@@ -34,7 +33,7 @@ pub(crate) fn write_now<R: Threads + Sync, O: Write>(
         return Ok(());
     }
     text.clear();
-    if let Err(error) = write_entry(rt, alloc, THREADS, entry, stats, text, out) {
+    if let Err(error) = write_entry(rt, alloc, threads, entry, stats, text, out) {
         return Err(of_writing(error));
     }
     write_last(text, out)

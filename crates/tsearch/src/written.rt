@@ -22,12 +22,14 @@ pub(crate) struct Written {
     pub(crate) stats: bool,
     /// What they say of the status.
     pub(crate) marks: Marks,
+    /// In how many threads the text of a large answer may be formed, with the one that writes it.
+    threads: usize,
     text: Vec<u8>,
 }
 
 impl Written {
     /// Nothing is written yet.
-    pub(crate) fn new(alloc: Global, stats: bool) -> Written
+    pub(crate) fn new(alloc: Global, stats: bool, threads: usize) -> Written
         ensures marks { result.marks ≡ marks_of [] }
         ensures stats { result.stats ≡ stats }
     {
@@ -37,6 +39,7 @@ impl Written {
                 refused: false,
                 hit: false,
             },
+            threads,
             text: Vec::new(alloc),
         }
     }
@@ -57,7 +60,15 @@ impl Written {
         ensures err { OnErr result (AppendsFront (O.contents out.old) (O.contents out.new) (text_of_entry self.old.stats entry.now)) }
     {
         self.marks = self.marks.with(entry);
-        write_now(rt, alloc, entry, self.stats, &mut self.text, out)
+        write_now(
+            rt,
+            alloc,
+            self.threads,
+            entry,
+            self.stats,
+            &mut self.text,
+            out,
+        )
     }
 }
 

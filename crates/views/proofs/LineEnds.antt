@@ -5,7 +5,6 @@ use Rattle.std.specs.List.{list_any}
 use Rattle.std.proofs.Math.Bool.{or-false}
 use Rattle.std.proofs.lemmas.Bool.Decides.{nat_tests}
 use Rattle.std.proofs.lemmas.List.{length-take}
-use Rattle.index.specs.Text.{has_long_line}
 use Rattle.lines.specs.Lines.{lines_of, with_byte_in_front}
 use Rattle.memchr.specs.Find.{is_byte, Nowhere, NoneBefore, Passes}
 
@@ -49,21 +48,3 @@ lines_of-memchr text place first =
 
 pub lines_of-none : (text : List ℕ) → Nowhere (Passes (is_byte 10) text) 0 (length text) → lines_of text ≡ only_line text
 lines_of-none text none = lines_of-last text (λ k below e. none k (omega arith) below (rw e refl))
-
-pub long-first : (text : List ℕ) (place : ℕ)
-    → (NoneBefore (Passes (is_byte 10) text) 0 (length text) place × Passes (is_byte 10) text place)
-    → (16384 < place → has_long_line text ≡ true) × (place ≤ 16384 → has_long_line text ≡ has_long_line (drop (suc place) text))
-long-first text place first =
-    let cut : lines_of text ≡ take place text ∷ lines_of (drop (suc place) text) = lines_of-memchr text place first in
-    let size : length (take place text) ≡ place = simp length-take (omega (arith, first.0.high)) in
-    let parts : has_long_line text ≡ (nat_lt 16384 place || has_long_line (drop (suc place) text)) = rw cut (rw size refl) in (
-      λ h. let long : nat_lt 16384 place ≡ true = grind (arith, nat_tests) in parts ∙ rw long refl,
-      λ h. let short : nat_lt 16384 place ≡ false = grind (arith, nat_tests) in parts ∙ rw short refl,
-    )
-
-pub long-last : (text : List ℕ) → Nowhere (Passes (is_byte 10) text) 0 (length text) → has_long_line text ≡ nat_lt 16384 (length text)
-long-last text none = ap (λ lines. list_any (λ line. nat_lt 16384 (length line)) lines) (lines_of-none text none) ∙ one text
-  where
-    one : (text : List ℕ) → list_any (λ line. nat_lt 16384 (length line)) (only_line text) ≡ nat_lt 16384 (length text)
-    one [] = refl
-    one (b ∷ text) = or-false (nat_lt 16384 (length (b ∷ text)))

@@ -5,10 +5,9 @@ use Rattle.std.proofs.lemmas.Bool.Decides.{nat_tests}
 use Rattle.std.proofs.lemmas.List.{length-take, length-drop}
 use Rattle.lines.specs.Lines.{lines_of}
 use Rattle.memchr.specs.Find.{is_byte, Nowhere, NoneBefore, Passes}
-use Rattle.index.specs.Text.{has_long_line}
 use Rattle.index.proofs.LineLemmas.{rest-after}
 use Rattle.views.specs.Found.{found, numbered}
-use Rattle.views.proofs.LineEnds.{lines_of-memchr, lines_of-none, long-first, long-last}
+use Rattle.views.proofs.LineEnds.{lines_of-memchr, lines_of-none}
 
 -- the first line feed is at this place
 abbrev pub EndsAt : List ℕ → ℕ → Type 0
@@ -16,21 +15,6 @@ EndsAt text place = NoneBefore (Passes (is_byte 10) text) 0 (length text) place 
 
 abbrev pub HasNoEnd : List ℕ → Type 0
 HasNoEnd text = Nowhere (Passes (is_byte 10) text) 0 (length text)
-
-pub short-first : (text : List ℕ) (place : ℕ) → has_long_line text ≡ false → EndsAt text place → place ≤ 16384
-short-first text place short first =
-    elim (cases_lt 16384 place) [ inl long ↦ absurd (false≢true (sym short ∙ (long-first text place first).0 long)) | inr within ↦ within ]
-
-pub short-rest : (text : List ℕ) (place : ℕ) → has_long_line text ≡ false → EndsAt text place
-    → has_long_line (take (length text - (place + 1)) (drop (place + 1) text)) ≡ false
-short-rest text place short first =
-    ap has_long_line (rest-after text place) ∙ (sym ((long-first text place first).1 (short-first text place short first)) ∙ short)
-
-pub length-first : (text : List ℕ) (place : ℕ) → has_long_line text ≡ false → EndsAt text place → length (take place text) ≤ 16384
-length-first text place short first = let within = short-first text place short first in simp length-take (omega arith)
-
-pub length-last : (text : List ℕ) → has_long_line text ≡ false → HasNoEnd text → length text ≤ 16384
-length-last text short none = let e = long-last text none ∙ refl in grind (arith, nat_tests)
 
 pub numbered-first : (name : List ℕ) (line : ℕ) (text : List ℕ) (place : ℕ) → EndsAt text place
     → numbered name line (lines_of text)

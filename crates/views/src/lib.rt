@@ -12,7 +12,7 @@ mod text;
 
 pub use answer::{Answer, Contents};
 pub use near::append_stretches;
-pub use parts::{Part, PartText};
+pub use parts::{Passage, PassageText};
 pub use places::{Hit, Lines, Place, Places};
 pub use row::{append_at_column, append_count, append_name, append_place, append_span};
 pub use shown::{Shown, ShownContents};

@@ -11,7 +11,7 @@ use std::marker::Model;
 ///
 /// Contracts see it as the text.
 #[derive(Debug, Drop)]
-pub struct Part {
+pub struct Passage {
     /// The first bytes, behind `from` bytes that are not shown.
     pub text: Vec<u8>,
     /// How many of the first bytes of `text` are not shown.
@@ -24,7 +24,7 @@ pub struct Part {
     pub zero: bool,
 }
 
-impl Model for Part {
+impl Model for Passage {
     ghost use Rattle.std.specs.Prelude.{◌++◌, List, ℕ, drop};
     ghost use Rattle.views.specs.Text.{text_of_hits};
 
@@ -39,7 +39,7 @@ impl Model for Part {
 
 /// The text of a part.
 #[derive(Drop)]
-pub struct PartText<'a> {
+pub struct PassageText<'a> {
     /// The first bytes.
     pub formed: &'a [u8],
     /// The hits whose lines follow.
@@ -48,13 +48,13 @@ pub struct PartText<'a> {
     pub zero: bool,
 }
 
-impl Part {
+impl Passage {
     /// The text: its first bytes, which are formed already, and the hits whose lines follow.
-    pub fn text(&self) -> PartText<'_>
+    pub fn text(&self) -> PassageText<'_>
         ensures { result.formed.now ++ text_of_hits result.zero result.lines ≡ self.now }
     {
         let (_, lines) = self.places.lines().split_at(self.formed);
-        PartText {
+        PassageText {
             formed: &self.text[self.from..],
             lines,
             zero: self.zero,

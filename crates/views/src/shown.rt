@@ -3,7 +3,7 @@
 ghost use Rattle.std.specs.Prelude.{◌≡◌, codes, if◌then◌else◌, []};
 ghost use Rattle.views.specs.View.{shows_names};
 
-use crate::parts::Part;
+use crate::parts::Passage;
 use crate::text::append_all;
 use itoa::Buffer;
 use request::View;
@@ -34,7 +34,7 @@ pub struct ShownContents {
     /// How many lines of text there are.
     pub rows: usize,
     /// Their text.
-    pub parts: Vec<Part>,
+    pub parts: Vec<Passage>,
     /// The number of documents that the index had.
     pub documents: u32,
     /// The number of candidates among them.
@@ -110,7 +110,7 @@ impl Shown {
     }
 
     /// The text of the rows, part after part.
-    pub fn parts(&self) -> &[Part]
+    pub fn parts(&self) -> &[Passage]
         ensures { text_of_parts result.now ≡ self.now.text }
     {
         self.contents.parts.as_slice()

@@ -31,7 +31,7 @@ class _Alone:
     async def answer(self) -> int:
         """The status."""
         try:
-            call = Call(self._request, self._terminal, self._aside)
+            call = Call(self._request, self._terminal)
             parts = [part for path in self._request["paths"] for part in await self._parts(*path)]
             self._terminal.end_progress()
             status = await call.answer(parts)

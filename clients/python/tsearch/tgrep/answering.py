@@ -33,8 +33,8 @@ _BLOCK = 1 << 18
 # What makes a file no document, and is no news to who searches text; and what is in each reason that is a limit of documents.
 _NO_TEXT = "binary"
 _TOO_LONG = "too long"
-# What is searched by itself, in blocks.
-_ASIDE = {"body too long", "name too long"}
+# What is said in place of a reason.
+_SAID = {"body too long": "over 64 MiB, and not named as a PATH"}
 
 
 class Reply(Protocol):
@@ -54,7 +54,6 @@ class Part:
     filter: which documents of the piece are searched, once that is known.
     text: what it is read from block by block, if it is.
     is_typed: whether it is a file whose path was typed.
-    aside: what of a folder is searched as a part of its own.
     """
 
     piece: Piece
@@ -63,18 +62,10 @@ class Part:
     filter: Filter = Filter(())
     text: Text | None = None
     is_typed: bool = False
-    aside: frozenset[bytes] = frozenset()
 
     def has(self, name: bytes) -> bool:
         """Whether a document, or what is none, is searched."""
         return self.filter.has(name, self.documents.size(name) if self.filter.largest is not None else 0)
-
-
-class HasLong(Protocol):
-    """Where files are searched that are too long for a tree."""
-
-    async def add_long(self, part: Part, names: Iterable[bytes]) -> list[Part]:
-        """The parts for files of a folder."""
 
 
 def _is_limit(reason: str) -> bool:
@@ -84,9 +75,8 @@ def _is_limit(reason: str) -> bool:
 class Call:
     """A call, once it is known in which documents it searches."""
 
-    def __init__(self, request: dict[str, Any], reply: Reply, aside: HasLong) -> None:
+    def __init__(self, request: dict[str, Any], reply: Reply) -> None:
         self.given: dict[str, Any] = request["given"]
-        self._aside = aside
         self._reply = reply
         self._is_terminal: bool = request["terminal"]
         self._began = time.monotonic()
@@ -146,7 +136,6 @@ class Call:
             await self._check_patterns(parts[0].documents)
         for part in parts:
             part.filter = asking.filter_of(self.given, part.piece, part.here)
-        parts = await self._with_long(parts)
         if self._show == "json":
             before = self._before["call"][4] if self._before else (0, 0)
             self._json = JsonLines(self._body_of(parts), self._totals, self._empty, self._began, before)
@@ -157,20 +146,6 @@ class Call:
             if not self._has_enough:
                 await self._search(part, lines)
         return self._end(parts)
-
-    async def _with_long(self, parts: list[Part]) -> list[Part]:
-        """The parts, and behind each folder the files of it that are too long for its tree."""
-        found: list[Part] = []
-        for part in parts:
-            found.append(part)
-            if not part.piece.is_file and not self.given.get("files"):
-                names = [name for name, reason in part.documents.left_out.items() if reason in _ASIDE and part.has(name)]
-                part.aside = frozenset(names)
-                long = await self._aside.add_long(part, sorted(names))
-                for one in long:
-                    one.filter = asking.filter_of(self.given, one.piece, one.here)
-                found += long
-        return found
 
     @property
     def _has_enough(self) -> bool:
@@ -266,7 +241,7 @@ class Call:
             for name, reason in part.documents.left_out.items():
                 is_missed = reason != _NO_TEXT or bool(self.given.get("text")) or part.is_typed
                 is_told = (is_missed or self.given.get("left_out")) and not (self.given.get("files") and _is_limit(reason))
-                if is_told and name not in part.aside and part.has(name):
+                if is_told and part.has(name):
                     (typed if part.is_typed else others)[part.piece.displayed(name)] = reason
                     is_whole &= not is_missed
                     self._has_errors |= reason != _NO_TEXT and not _is_limit(reason)
@@ -284,10 +259,10 @@ class Call:
         for found, most in (typed, len(typed)), (faults, _SUMMED), (limits, 1):
             if names_all or len(found) <= most:
                 for name, reason in found.items():
-                    self._say(f"{os.fsdecode(name)}: {reason}, so not searched")
+                    self._say(f"{os.fsdecode(name)}: {_SAID.get(reason, reason)}, so not searched")
             else:
-                reasons = collections.Counter("line too long" if "line" in reason else reason for reason in found.values())
-                shown = ", ".join(f"{count:,} {reason}" for reason, count in sorted(reasons.items()))
+                reasons = collections.Counter(found.values())
+                shown = ", ".join(f"{count:,} {_SAID.get(reason, reason)}" for reason, count in sorted(reasons.items()))
                 self._say(f"{len(found):,} files are not searched: {shown} (--left-out names them, and grep finds what is in them)")
 
     # Names.
@@ -381,6 +356,7 @@ class Call:
         needs_spans = not query.invert and (
             self._colours.is_on
             or self._show == "json"
+            or forms.shortens(self.given, self._is_terminal)
             or any(self.given.get(key) for key in ("only_matching", "vimgrep", "stats"))
         )
         # where spans are known, columns are too
@@ -412,6 +388,7 @@ class Call:
         """Whether rows need not be read."""
         return (
             not self._colours.is_on
+            and not forms.shortens(self.given, self._is_terminal)
             and not any(self.given.get(key) for key in ("heading", "only_matching", "vimgrep", "max_columns", "stats", "max_count"))
             and self._show == "lines"
             and len({self.given.get(key, self.given.get("context", 0)) for key in ("before", "after")}) == 1

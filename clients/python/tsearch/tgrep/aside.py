@@ -1,10 +1,10 @@
-"""Files and texts that are in no tree, or too long for it, in a session of their own, for one call."""
+"""Standard input, and files that were typed and are in no tree or too long for it, in a session of their own, for one call."""
 
 from __future__ import annotations
 
 import os
 import stat
-from collections.abc import Callable, Iterable
+from collections.abc import Callable
 
 from .. import aio
 from .answering import Part
@@ -12,7 +12,6 @@ from .asking import Piece
 from .text import Text
 
 _SHOWN = {"-": b"<stdin>"}
-_BEGIN = 1 << 16
 
 
 class Aside:
@@ -39,33 +38,9 @@ class Aside:
         text = Text(self._session, _SHOWN.get(typed, os.fsencode(typed)), opens)
         return [Part(Piece(text.name, text.shown, True), text, text=text, is_typed=True)]
 
-    async def add_long(self, part: Part, names: Iterable[bytes]) -> list[Part]:
-        """Adds files of a folder that are too long to be documents of it, but for those that are binary or gone by now."""
-        parts: list[Part] = []
-        for name in names:
-            path = part.documents.path(name)
-            if path and _is_text(path):
-                (added,) = await self.add_file(os.fsdecode(part.piece.displayed(name)), path)
-                added.is_typed = False
-                parts.append(added)
-        return parts
-
     async def close(self) -> None:
         """Ends the session."""
         if self._session:
             self._session.kill()
             await self._session.close()
 
-
-def _is_text(path: bytes) -> bool:
-    """Whether a file is there that has no byte 0 where it begins."""
-    try:
-        descriptor = os.open(path, os.O_RDONLY | os.O_CLOEXEC | os.O_NONBLOCK)
-    except OSError:
-        return False
-    try:
-        return stat.S_ISREG(os.fstat(descriptor).st_mode) and b"\0" not in os.read(descriptor, _BEGIN)
-    except OSError:
-        return False
-    finally:
-        os.close(descriptor)

@@ -11,9 +11,10 @@ import re
 from collections.abc import Callable, Iterator
 from typing import IO, Any, NamedTuple
 
-from ..answers import View
+from ..answers import Hit, View
 from ..names import quote, unquote
 from ..query import Query
+from ..shortening import LONGEST, shortened
 from . import ere
 from .asking import Piece
 
@@ -24,6 +25,8 @@ _COLUMN = re.compile(rb"^([^\0\n]*)\0([0-9]+)(:)([0-9]+):()([^\n]*)\n", re.MULTI
 _SPANS = re.compile(rb"^([^\0\n]*)\0([0-9]+)(:)()([0-9,-]*):([^\n]*)\n", re.MULTILINE)
 _ROWS = {View.LINES: _LINE, View.CONTEXT: _LINE, View.COLUMN: _COLUMN, View.SPANS: _SPANS}
 _WORD = re.compile(rb"[0-9A-Za-z_]")
+# In bytes: what --vimgrep writes of a line at most, if it writes it whole for each of its matches.
+_MOST_REPEATED = 1 << 22
 # In bytes: of lines up to this length all matches that are empty are known.
 _LONG = 1 << 20
 _CONTROL = re.compile(rb"[\0-\x08\x0b-\x1f\x7f]")
@@ -303,7 +306,8 @@ class Lines:
         self._has_columns = bool(given.get("column"))
         self._each = bool(given.get("vimgrep"))
         self._only = bool(given.get("only_matching"))
-        self._most = given.get("max_columns")
+        self._shortens = shortens(given, is_terminal)
+        self._most = given.get("max_columns", LONGEST if is_terminal else 0)
         self._null = bool(given.get("null"))
         self._colours = colours
         self._show: Callable[[bytes], bytes] = shown_controls if is_terminal else bytes
@@ -328,10 +332,12 @@ class Lines:
     def _matches(self, row: Row) -> Iterator[bytes]:
         spans = row.spans or ()
         # as for grep, -o shows no match that is empty
-        for span in spans if self._only else self._empty.matches(row.text, spans) or ((0, 0),):
-            yield self._line(row._replace(spans=(span,)) if self._each else row, span[0] + 1, span)
+        each = spans if self._only else self._empty.matches(row.text, spans) or ((0, 0),)
+        is_repeated = self._each and not self._only and len(row.text) * len(each) > _MOST_REPEATED
+        for span in each:
+            yield self._line(row._replace(spans=(span,)) if self._each else row, span[0] + 1, span, is_repeated)
 
-    def _line(self, row: Row, column: int | None, only: tuple[int, int] | None) -> bytes:
+    def _line(self, row: Row, column: int | None, only: tuple[int, int] | None, is_repeated: bool = False) -> bytes:
         separator = b":" if row.is_found else b"-"
         parts = []
         if self._has_names:
@@ -342,18 +348,25 @@ class Lines:
             if column is None:
                 column = self._empty.column(row.text, row.spans) if row.spans is not None else 1
             parts.append(self._colours.paint(b"%d" % column, "column") + separator)
-        parts.append(self._text(row, only if self._only else None))
+        parts.append(self._text(row, only if self._only else None, is_repeated))
         return b"".join(parts) + b"\n"
 
-    def _text(self, row: Row, only: tuple[int, int] | None) -> bytes:
+    def _text(self, row: Row, only: tuple[int, int] | None, is_repeated: bool) -> bytes:
+        text, spans = row.text, row.spans if row.is_found and row.spans else ()
         if only:
-            return self._colours.paint(self._show(row.text[only[0] : only[1]]), "match")
-        if self._most and len(row.text) + 1 > self._most:
+            text, spans = text[only[0] : only[1]], ((0, only[1] - only[0]),)
+        elif self._most and len(text) + 1 > self._most and not self._shortens:
             return b"[Omitted long %s line]" % (b"matching" if row.is_found else b"context")
-        if not (self._colours.is_on and row.spans and row.is_found):
-            return self._show(row.text)
-        parts, at = [], 0
-        for begin, end in row.spans:
-            parts += [self._show(row.text[at:begin]), self._colours.paint(self._show(row.text[begin:end]), "match")]
-            at = end
-        return b"".join(parts) + self._show(row.text[at:])
+        if is_repeated or self._shortens and self._most:
+            parts = shortened(text, spans, self._most or LONGEST)
+        elif self._colours.is_on and spans:
+            parts = Hit(row.name, row.number, text, None, spans).parts()
+        else:
+            return self._show(text)
+        return b"".join(self._colours.paint(self._show(part), "match") if at % 2 else self._show(part) for at, part in enumerate(parts))
+
+
+def shortens(given: dict[str, Any], is_terminal: bool) -> bool:
+    """Whether of a long line what is around its matches is shown: at a terminal, unless -M says how long a line may be, or with -M where
+    that is asked for."""
+    return bool(given.get("preview")) if "max_columns" in given else is_terminal

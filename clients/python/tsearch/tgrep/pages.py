@@ -32,14 +32,14 @@ _TEXTS = (
     (
         "What is left out",
         "What .gitignore names is left out in a git repository, unless git tracks it; what .ignore and .rgignore name, everywhere. So are symbolic "
-        "links (-R follows them), what is named .git, files with a byte 0, and, with a message, files with a line that is too long for the program. If "
-        "nothing is found and a file could not be searched, the status is 2. A file that is too long is searched behind the others.",
+        "links (-R follows them), what is named .git, files with a byte 0, and, with a message, files of over 64 MiB that are not "
+        "named as a PATH. If nothing is found and a file could not be searched, the status is 2.",
     ),
     (
         "How it differs from grep and rg",
         "Lines have their numbers and paths unless -N and -h say otherwise; a single file has no path. Hidden files are searched, as by grep. -h, "
         "-L, -r, -s, -E and -I mean what they mean for grep, and all other letters what they mean for both or for rg. -c and -l show no file "
-        "without a line. A pattern is a POSIX extended regular expression over bytes: docs/PATTERNS.md has a table for who comes from Perl or rg.",
+        "without a line. At a terminal a line of over 1,000 bytes is shown around its matches, unless -M says otherwise. A pattern is a POSIX extended regular expression over bytes: docs/PATTERNS.md has a table for who comes from Perl or rg.",
     ),
     ("Status", "0 if a line was found, 1 if none was, and 2 after an error, such as a file that may not be read; with -q 0 once a line is found."),
     (

@@ -338,7 +338,7 @@ class Server:
         aside = Aside()
         try:
             parts, status = await self._parts(request, reply, aside, is_loaded)
-            call = Call(request, reply, aside)
+            call = Call(request, reply)
             status = max(status, await call.answer(parts))
             reply.end(status, call.carried)
         finally:

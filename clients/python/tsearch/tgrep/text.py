@@ -10,12 +10,16 @@ from collections.abc import AsyncIterator, Callable
 from typing import NamedTuple
 
 from .. import aio
-from ..folder import MAX_BODY, MAX_LINE, decoder_of, mark_of
+from ..folder import decoder_of, mark_of
+from ..program import MOST_BODY
 from .arguments import Refused
+
+# In bytes: so much is read at a time. A block has more if a line has.
+_BLOCK = 1 << 20
 
 
 class UnreadableText(Exception):
-    """A text cannot be read; the text of the error says why."""
+    """A text cannot be read, or not to its end; the text of the error says why."""
 
 
 class Window(NamedTuple):
@@ -32,7 +36,7 @@ class Window(NamedTuple):
 class Text:
     """A text in a session, of which one block at a time is a document.
 
-    left_out: why it, or a line of it, is not searched, once that is known.
+    left_out: why it is not searched, or not to its end, once that is known.
     """
 
     has_quoted = False
@@ -45,7 +49,6 @@ class Text:
         self.left_out: dict[bytes, str] = {}
         self._opens = opens
         self._descriptor = -1
-        self._long_lines: list[int] = []
         self._size = 0
         self._rest, self._line, self._offset = b"", 0, 0
         self._is_end = False
@@ -69,9 +72,8 @@ class Text:
         return self._rest
 
     async def windows(self, around: int) -> AsyncIterator[Window]:
-        """The blocks, each once it is published. Each line is shown of one of them, with so many lines around it in the same. A line
-        that is too long ends a block, and is left out. `Refused` if the lines around are too many for a block, `UnreadableText` if
-        the text cannot be read."""
+        """The blocks, each once it is published. Each line is shown of one of them, with so many lines around it in the same. `Refused` if
+        the lines around are too many for a block, `UnreadableText` if the text cannot be read."""
         try:
             self._descriptor = self._opens()
         except OSError as error:
@@ -86,68 +88,39 @@ class Text:
     async def _windows(self, around: int) -> AsyncIterator[Window]:
         done = 0
         await self._read_begin()
-        while not self._is_done:
+        while self._rest or not self._is_end:
             if b"\0" in self._rest:
-                self.left_out[self.name] = "binary"
-                return
-            end, is_whole = self._end_of_block()
+                raise UnreadableText("binary")
+            end = len(self._rest) if self._is_end else self._rest.rfind(b"\n") + 1
             body = self._rest[:end]
-            last = self._line + body.count(b"\n") + (end > 0 and not body.endswith(b"\n")) - (0 if is_whole else around)
+            # the last lines wait for those behind them
+            last = self._line + body.count(b"\n") + (end > 0 and not body.endswith(b"\n")) - (0 if self._is_end else around)
             if last > done:
                 await self._put(body)
                 yield Window(body, self._line, self._offset, done + 1, last)
-                self._drop(end if is_whole else _after_lines(body, last - around - self._line))
+                self._drop(end if self._is_end else _after_lines(body, last - around - self._line))
                 done = last
-            elif is_whole:
+            elif self._is_end:
                 self._drop(end)
-            elif len(self._rest) >= MAX_BODY:
+            elif around and len(self._rest) > MOST_BODY:
                 raise Refused(f"{os.fsdecode(self.shown)} is too long for so many lines around: use grep")
-            if is_whole and not self._is_done:
-                await self._skip_line()
-                done = self._line
             await self._read()
-
-    @property
-    def _is_done(self) -> bool:
-        return self._is_end and not self._rest
-
-    def _end_of_block(self) -> tuple[int, bool]:
-        """Where the block ends, and whether nothing behind it belongs to it: at the end of the text, or before a line that is too long."""
-        at = 0
-        if len(self._rest) > MAX_LINE:
-            for line in self._rest.split(b"\n"):
-                if len(line) > MAX_LINE:
-                    return at, True
-                at += len(line) + 1
-        return (len(self._rest), True) if self._is_end else (self._rest.rfind(b"\n") + 1, False)
 
     async def _put(self, body: bytes) -> None:
         await self.session.put(self.name, body)
         published = await self.session.publish()
         if published.refused:
-            raise published.refused[0]
+            raise UnreadableText(published.refused[0].reason)
 
     def _drop(self, end: int) -> None:
         self._line += self._rest.count(b"\n", 0, end)
         self._offset += end
         self._rest = self._rest[end:]
 
-    async def _skip_line(self) -> None:
-        """Leaves out the line that is next."""
-        self._long_lines.append(self._line + 1)
-        first, count = self._long_lines[0], len(self._long_lines)
-        self.left_out[self.name] = f"line {first} too long" if count == 1 else f"{count} lines too long, from line {first} on"
-        while b"\n" not in self._rest and not self._is_end:
-            self._drop(len(self._rest))
-            await self._read()
-        self._drop(self._rest.find(b"\n") + 1 or len(self._rest))
-
     async def _read_begin(self) -> None:
         """Reads so much that a byte order mark would be known. It is no part of the text."""
-        while not self._is_end and len(self._rest) < 3:
+        while not self._is_end and len(self._rest) < 3 and not self._rest.endswith(b"\n"):
             await self._read()
-            if self._rest[-1:] == b"\n":
-                break
         mark = mark_of(self._rest)
         self._decoder = decoder_of(mark)
         self._rest = self._decoded(self._rest[len(mark) :])
@@ -156,12 +129,14 @@ class Text:
         return self._decoder.decode(data, self._is_end).encode() if self._decoder else data
 
     async def _read(self) -> None:
-        """Reads what there is, at most what a block can have."""
+        """Reads what there is, at most a block."""
         if self._is_end:
             return
+        if len(self._rest) > MOST_BODY:
+            raise UnreadableText(f"line {self._line + 1} too long")
         await _until_readable(self._descriptor)
         parts = []
-        left = MAX_BODY - len(self._rest)
+        left = _BLOCK
         while left > 0:
             try:
                 data = os.read(self._descriptor, left)

@@ -182,7 +182,7 @@ class Tree:
 
     def _need_memory(self) -> None:
         """`TooLarge` if the text to load takes more memory than there is."""
-        text = self.files.listed_bytes
+        text = self.files.text_bytes
         with contextlib.suppress(OSError, ValueError), open("/proc/meminfo", "rb") as file:
             free = next(int(line.split()[1]) * 1024 for line in file if line.startswith(b"MemAvailable:"))
             if text * _TIMES > free * _SHARE:

@@ -7,7 +7,6 @@ const options = { i: at("ignore-case"), w: at("word"), F: at("literal") };
 const visitor = Array.from(crypto.getRandomValues(new Uint8Array(16)), (byte) => byte.toString(16).padStart(2, "0")).join("");
 // Fewer letters are searched for at Enter alone: they find too much to be of use.
 const LEAST = 3;
-const LONGEST = 400;
 // In milliseconds: when a search is made again that was refused since a program starts again.
 const AGAIN = 500;
 
@@ -60,26 +59,12 @@ function complain(told) {
   show("");
 }
 
-// A long line is cut around its first match.
-function cut(parts) {
-  const found = parts.length > 1 ? parts[0].length : 0;
-  const from = Math.max(0, found - LONGEST / 4);
-  let left = LONGEST, skip = from;
-  return parts.map((part, index) => {
-    const begin = Math.min(skip, part.length);
-    skip -= begin;
-    const shown = part.slice(begin, begin + left);
-    left -= shown.length;
-    return (index === 0 && from > 0 ? "…" : "") + shown;
-  });
-}
-
 function rowOf(hit) {
   const row = element("button", hit.around ? "row around" : "row");
   row.type = "button";
   row.append(element("span", "number", String(hit.line)));
   const text = element("span", "text");
-  cut(hit.parts).forEach((part, index) => text.append(index % 2 ? element("mark", "", part) : part));
+  hit.parts.forEach((part, index) => text.append(index % 2 ? element("mark", "", part) : part));
   row.append(text);
   return row;
 }
@@ -164,10 +149,10 @@ async function search() {
   }
 }
 
-async function view(found, head, line, row) {
+async function view(found, head, line, row, isWhole = false) {
   document.querySelectorAll(".row.shown").forEach((other) => other.classList.remove("shown"));
   row.classList.add("shown");
-  const address = `/api/file?${new URLSearchParams({ repository: found.repository, life: head.life, version: head.version })}&name=${found.id}`;
+  const address = `/api/file?${new URLSearchParams({ repository: found.repository, life: head.life, version: head.version })}&name=${found.id}${isWhole ? "&whole=1" : ""}`;
   const response = await fetch(address);
   const told = await response.json();
   const lines = at("file-lines");
@@ -182,12 +167,17 @@ async function view(found, head, line, row) {
     const shown = element("div", "row");
     const hit = marks.get(index + 1);
     const column = element("span", "text");
-    if (hit) hit.parts.forEach((part, number) => column.append(number % 2 ? element("mark", "", part) : part));
+    if (hit && !(hit.cut && isWhole)) hit.parts.forEach((part, number) => column.append(number % 2 ? element("mark", "", part) : part));
     else column.textContent = text;
     shown.append(element("span", index + 1 === line ? "number target" : "number", String(index + 1)), column);
     return shown;
   }));
   lines.children[line - 1]?.scrollIntoView({ block: "center" });
+  if (!told.cut) return;
+  const whole = element("button", "note", "Long lines are cut: show them whole");
+  whole.type = "button";
+  whole.addEventListener("click", () => view(found, head, line, row, true));
+  lines.prepend(whole);
 }
 
 function closeFile() {

@@ -23,6 +23,7 @@ from ..errors import Cancelled, Ended, Error, OptionRefused, PatternRefused, Sea
 from ..merging import cut
 from ..names import to_bytes
 from ..query import Options
+from ..shortening import LONGEST, shortened
 from ..watching import hints
 from .repositories import Filter, Gone, Repository, names_of
 
@@ -42,7 +43,7 @@ _FILES = {
     "/icon.svg": ("icon.svg", "image/svg+xml"),
 }
 _LOOPBACK = {"localhost", "127.0.0.1", "[::1]"}
-# In bytes: an answer whose spans take more is shown without marks.
+# In bytes: an answer whose spans take more, without the texts, is shown without marks.
 _MOST_SPANS = 1 << 20
 _BLOCK = 1 << 16
 # How often it is seen whether a visitor has gone, in seconds.
@@ -52,12 +53,13 @@ _OFTEN = 0.2
 @dataclass(frozen=True)
 class Limits:
     """What no visitor can lift: how many lines an answer has, the milliseconds of a search, how many searches of all visitors are at
-    work at a time, and how many lines are shown before and after each line."""
+    work at a time, how many lines are shown before and after each line, and how many bytes what a repository answers has: lines may be long."""
 
     lines: int = 500
     search_ms: int = 3_000
     searches: int = 32
     context: int = 5
+    answer: int = 64 << 20
 
 
 @dataclass(frozen=True)
@@ -91,6 +93,7 @@ class Asked:
     flags: Options
     limit: int
     context: int
+    is_whole: bool
     visitor: str
     turn: int
 
@@ -114,6 +117,7 @@ class Asked:
             ),
             limit=max(1, number("max", limits.lines, limits.lines)),
             context=number("context", limits.context, 0),
+            is_whole="whole" in words,
             visitor=words.get("visitor", [""])[-1],
             turn=number("turn", 2**53, 0),
         )
@@ -190,7 +194,8 @@ class Server:
     async def _starter(self, stack: contextlib.AsyncExitStack) -> Callable[[], Awaitable[Any]]:
         """What starts a session, or a cluster in the place of one."""
         settings = self._settings
-        options: dict[str, Any] = {"readers": settings.readers, "search_ms": settings.limits.search_ms}
+        limits = settings.limits
+        options: dict[str, Any] = {"readers": settings.readers, "search_ms": limits.search_ms, "max_answer": limits.answer}
         if settings.cluster is None:
             return lambda: aio.Session.start(**options)
         from distributed import Client
@@ -311,7 +316,7 @@ class Server:
             left, has_more = left - answer.count, has_more or answer.more
             head = {"repository": repository.name, "life": answer.life, "version": answer.version, "lines": answer.count, "more": answer.more}
             await response.write(_json({**head, "loaded": repository.is_loaded}))
-            rows = (_json({"repository": repository.name, **row}) for row in _documents(answer))
+            rows = (_json({"repository": repository.name, **row}) for row in _documents(answer, asked.is_whole))
             while block := await asyncio.to_thread(_some_of, rows):
                 await response.write(block)
         total: dict[str, object] = {"lines": asked.limit - left, "more": has_more, "seconds": round(time.monotonic() - began, 4)}
@@ -338,7 +343,10 @@ class Server:
             return self._refusal(fault)
         if not answer.count:
             return web.json_response({"refused": "there is no such file, or it is empty"}, status=404)
-        return web.json_response({"name": _shown(name), "lines": [_shown(hit.text) for hit in answer]})
+        lines, is_whole = [hit.text for hit in answer], "whole" in words
+        is_cut = not is_whole and any(len(line) > LONGEST for line in lines)
+        shown = [_shown(line if is_whole else shortened(line, ())[0]) for line in lines]
+        return web.json_response({"name": _shown(name), "lines": shown, **({"cut": True} if is_cut else {})})
 
     async def _status(self, request: web.Request) -> web.Response:
         told = []
@@ -401,12 +409,18 @@ async def _outcome(found: Awaitable[Answer]) -> Answer | Exception:
         return fault
 
 
-def _documents(answer: Answer) -> Iterator[dict[str, object]]:
-    """The documents of an answer as JSON: the name, its address, and its lines."""
-    if len(answer.spans_data or b"") > _MOST_SPANS:
+def _documents(answer: Answer, is_whole: bool) -> Iterator[dict[str, object]]:
+    """The documents of an answer as JSON: the name, its address, and its lines, the long ones whole or around their matches."""
+    if _bytes_of_spans(answer.spans_data or b"") > _MOST_SPANS:
         answer = dataclasses.replace(answer, spans_data=None)
     for name, rows in itertools.groupby((row for row in answer.rows() if row), key=lambda row: row.hit.name):
-        yield {"name": _shown(name), "id": urllib.parse.quote(name, safe="/"), "hits": [_row(row) for row in rows]}
+        yield {"name": _shown(name), "id": urllib.parse.quote(name, safe="/"), "hits": [_row(row, is_whole) for row in rows]}
+
+
+def _bytes_of_spans(data: bytes) -> int:
+    """How long the spans of all rows are."""
+    rows = (row.partition(b"\0")[2].split(b":", 2) for row in data.split(b"\n")[:-1])
+    return sum(len(row[1]) for row in rows)
 
 
 def _some_of(rows: Iterator[bytes]) -> bytes:
@@ -419,9 +433,14 @@ def _some_of(rows: Iterator[bytes]) -> bytes:
     return bytes(block)
 
 
-def _row(row: Row) -> dict[str, object]:
-    """A line as JSON: its number, and its parts, of which every second one is a match; `around` if it is only near one."""
-    return {"line": row.hit.line, "parts": [_shown(part) for part in row.hit.parts()], **({} if row.is_found else {"around": True})}
+def _row(row: Row, is_whole: bool) -> dict[str, object]:
+    """A line as JSON: its number, and its parts, of which every second one is a match; `around` if it is only near one, and `cut` if it
+    is too long to be shown whole."""
+    text, spans = row.hit.text, row.hit.spans or ()
+    is_cut = len(text) > LONGEST and not is_whole
+    parts = shortened(text, spans) if is_cut else row.hit.parts()
+    marks = {"around": not row.is_found, "cut": is_cut}
+    return {"line": row.hit.line, "parts": [_shown(part) for part in parts], **{key: True for key, holds in marks.items() if holds}}
 
 
 def _shown(data: bytes) -> str:

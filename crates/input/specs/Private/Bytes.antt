@@ -2,7 +2,6 @@
 use Rattle.std.specs.Prelude.{◌≡◌, ◌≢◌, ℕ, ◌<◌, ◌≤◌, List, [], ◌∷◌, ◌++◌, length, take, Option, Some, None, Ok, Err, Bool, IsFalse, OnSome, ⊤}
 use Rattle.std.specs.declared.result.Result.{Result}
 use Rattle.std.specs.Io.KnownBytes.{IsAtEnd}
-use Rattle.index.specs.declared.body.TheConstants.{MAX_BODY}
 use Rattle.script.specs.Items.{line_feeds}
 use Rattle.input.specs.declared.error.StreamError.{StreamError}
 use Rattle.input.specs.declared.body.Passed.{Passed}
@@ -10,7 +9,7 @@ use Rattle.input.specs.declared.body.PassedPiece.{PassedPiece}
 use Rattle.input.specs.declared.body.Closing.{Closing}
 use Rattle.input.specs.declared.body.Closing.TheVariants.{LineFeed, OtherByte, InputEnd}
 use Rattle.input.specs.declared.body.PutBody.{PutBody}
-use Rattle.input.specs.declared.body.PutBody.TheVariants.{Kept, Long, Lost}
+use Rattle.input.specs.declared.body.PutBody.TheVariants.{Kept, Skipped}
 use Rattle.input.specs.declared.body.PutBytes.{PutBytes}
 
 -- this many bytes, or fewer if the input ends first
@@ -60,12 +59,11 @@ abbrev pub IsClosing : Result Closing StreamError → List ℕ → Option (List 
 IsClosing (Ok closing) bytes was left = Closes closing bytes was left
 IsClosing (Err error) bytes was left = ⊤
 
--- what is kept of a body of this size
-abbrev pub Holds : PutBody → ℕ → List ℕ → Type 0
-Holds (Kept body) size bytes = body.items ≡ bytes
-Holds Long size bytes = MAX_BODY < size
-Holds Lost size bytes = ⊤
+-- what is kept of a body
+abbrev pub Holds : PutBody → List ℕ → Type 0
+Holds (Kept body) bytes = body.items ≡ bytes
+Holds Skipped bytes = ⊤
 
 abbrev pub IsPutBytes : ℕ → Result PutBytes StreamError → List ℕ → Option (List ℕ) → Option (List ℕ) → Type 0
-IsPutBytes size (Ok put) bytes was left = Holds put.body size bytes × Counts put.passed bytes × IsUpTo bytes size was left
+IsPutBytes size (Ok put) bytes was left = Holds put.body bytes × Counts put.passed bytes × IsUpTo bytes size was left
 IsPutBytes size (Err error) bytes was left = ⊤

@@ -1,6 +1,7 @@
 -- Open searches that get their entries.
 use Rattle.std.specs.Prelude.{◌≡◌, ◌≢◌, ℕ, ◌+◌, ◌<◌, ◌≤◌, List, [], ◌∷◌, ◌++◌, length, take, drop, All, Bool, Some, slice_get}
 use mathlib.Core.List.{IsPrefix}
+use Rattle.index.specs.declared.lengths.Lengths.{Lengths}
 use Rattle.prepare.specs.Request.{Request}
 use Rattle.views.specs.Shown.{Shown}
 use Rattle.script.specs.Items.{Item}
@@ -30,9 +31,9 @@ pub record IsService (service : ServiceState) : Type 0 where
   pub reader_zero : 0 < length service.lasts
 
 -- the service with these parts
-abbrev pub service_of : DeskState → Bool → Known → List ℕ → ℕ → List OpenSearch → List Last → ServiceState
-service_of desk timed told kept searches awaited lasts = record {
-  limits = limits_of desk.limit timed;
+abbrev pub service_of : DeskState → Lengths → Bool → Known → List ℕ → ℕ → List OpenSearch → List Last → ServiceState
+service_of desk lengths timed told kept searches awaited lasts = record {
+  limits = limits_of desk.limit lengths timed;
   accepted = desk.accepted;
   told = told.commands;
   kept = kept;

@@ -7,9 +7,10 @@ use Rattle.ere.specs.declared.error.EreErrorKind.{EreErrorKind}
 use Rattle.ere.specs.declared.error.EreErrorKind.TheVariants as kind
 use Rattle.index.specs.declared.command.Command.{Command}
 use Rattle.index.specs.declared.error.NameError.{NameError}
+use Rattle.index.specs.declared.lengths.Lengths.{Lengths}
 use Rattle.index.specs.declared.error.NameError.TheVariants as name
 use Rattle.index.specs.State.{State, state_of}
-use Rattle.index.specs.Text.{IsBody}
+use Rattle.index.specs.Text.{IsBodyOf}
 use Rattle.request.specs.Faults.{reason_of}
 use Rattle.request.specs.declared.fault.FindFault.{FindFault}
 use Rattle.request.specs.declared.fault.FindFault.TheVariants as find_fault
@@ -71,17 +72,19 @@ abbrev pub RanOut : ℕ → Entry → Type 0
 RanOut line entry = entry ≡ Refused line reason.OutOfMemory
 
 -- The faults of a body come first, then the room.
-abbrev pub HasBodyOrNoMemory : ℕ → State → List ℕ → ℕ → Entry → Type 0
-HasBodyOrNoMemory most state body line entry = HasBody most state body line entry ⊎ (IsBody body × (state.version < most) × RanOut line entry)
+abbrev pub HasBodyOrNoMemory : Lengths → ℕ → State → List ℕ → ℕ → Entry → Type 0
+HasBodyOrNoMemory lengths most state body line entry =
+    HasBody lengths most state body line entry ⊎ (IsBodyOf lengths body × (state.version < most) × RanOut line entry)
 
 -- A remove needs a document of that name, and then room. If there is room, memory can run out.
 abbrev pub IsRemoveOrNoMemory : ℕ → State → List ℕ → ℕ → Entry → Type 0
 IsRemoveOrNoMemory most state name line entry = IsRemove most state name line entry ⊎ ((state.version < most) × RanOut line entry)
 
 -- A load: the source is asked once, unless the load is refused at its name, and failed exactly if the entry says so.
-pub record IsLoaded (Holds : List ℕ → List ℕ → Type 0) (desk : DeskState) (failed : ℕ) (name path : List ℕ) (done : Result ℕ Reason)
-    (desk' : DeskState) (failed' : ℕ) : Type 0 where
+pub record IsLoaded (Holds : List ℕ → List ℕ → Type 0) (lengths : Lengths) (desk : DeskState) (failed : ℕ) (name path : List ℕ)
+    (done : Result ℕ Reason) (desk' : DeskState) (failed' : ℕ) : Type 0 where
   pub loaded : Option (List ℕ)
-  pub legal : (line : ℕ) → IsNamed name line (entry_of line done) (HasLoaded Holds desk.limit (state_of desk.accepted) path loaded line (entry_of line done))
+  pub legal : (line : ℕ) → IsNamed lengths.name name line (entry_of line done)
+      (HasLoaded Holds lengths desk.limit (state_of desk.accepted) path loaded line (entry_of line done))
   pub left : desk' ≡ desk_after done (command_of (load name path) loaded) desk
   pub counted : (line : ℕ) → IsCounted (failures_in (Some (entry_of line done))) failed failed'

@@ -11,6 +11,7 @@ use Rattle.steps.specs.Rows.{accepted_by, command_of, version_in, failures_in, s
 use Rattle.steps.specs.StepRows.{searches_in}
 use Rattle.steps.specs.LegalRows.{IsCommandEntry}
 use Rattle.index.specs.State.{state_of}
+use Rattle.index.specs.declared.lengths.Lengths.{Lengths}
 use Rattle.service.specs.Service.{IsCounted}
 
 -- What a reading can learn after the entry: after a publish, everything accepted; otherwise, the same as before.
@@ -19,10 +20,10 @@ pub data Tells (desk : DeskState) (told : Known) (entry : Entry) (told' : Known)
   nothing : version_in (Some entry) ≡ [] → told' ≡ told → Tells desk told entry told'
 
 -- The item is neither a search nor a sync. It can have this entry, and the desk changes as the entry says.
-pub record IsEntered (Holds : List ℕ → List ℕ → Type 0) (desk : DeskState) (told : Known) (failed : ℕ) (item : Numbered) (entry : Entry)
+pub record IsEntered (Holds : List ℕ → List ℕ → Type 0) (lengths : Lengths) (desk : DeskState) (told : Known) (failed : ℕ) (item : Numbered) (entry : Entry)
     (desk' : DeskState) (told' : Known) (failed' : ℕ) : Type 0 where
   pub loaded : Option (List ℕ)
-  pub legal : IsCommandEntry Holds desk.limit (state_of desk.accepted) loaded item.line item.item entry
+  pub legal : IsCommandEntry Holds lengths desk.limit (state_of desk.accepted) loaded item.line item.item entry
   pub no_search : searches_of item.item ≡ 0
   pub no_sync : is_sync item.item ≡ false
   pub no_search_entry : searches_in entry ≡ 0
@@ -37,10 +38,10 @@ pub record IsEntered (Holds : List ℕ → List ℕ → Type 0) (desk : DeskStat
 abbrev pub IsLeft : DeskState → Known → ℕ → DeskState → Known → ℕ → Type 0
 IsLeft desk told failed desk' told' failed' = (desk' ≡ desk) × (told' ≡ told) × (failed' ≡ failed)
 
-abbrev pub IsCarriedOut : (List ℕ → List ℕ → Type 0) → DeskState → Known → ℕ → Numbered → Outcome → DeskState → Known → ℕ → Type 0
-IsCarriedOut Holds desk told failed item (outcome.Entry entry) desk' told' failed' = IsEntered Holds desk told failed item entry desk' told' failed'
-IsCarriedOut Holds desk told failed item (outcome.Search question) desk' told' failed' =
+abbrev pub IsCarriedOut : (List ℕ → List ℕ → Type 0) → Lengths → DeskState → Known → ℕ → Numbered → Outcome → DeskState → Known → ℕ → Type 0
+IsCarriedOut Holds lengths desk told failed item (outcome.Entry entry) desk' told' failed' = IsEntered Holds lengths desk told failed item entry desk' told' failed'
+IsCarriedOut Holds lengths desk told failed item (outcome.Search question) desk' told' failed' =
     (question ≡ item.item) × (searches_of item.item ≡ 1) × IsLeft desk told failed desk' told' failed'
-IsCarriedOut Holds desk told failed item outcome.Sync desk' told' failed' = (is_sync item.item ≡ true) × IsLeft desk told failed desk' told' failed'
-IsCarriedOut Holds desk told failed item (outcome.Cancel number) desk' told' failed' = (item.item ≡ cancel number) × IsLeft desk told failed desk' told' failed'
-IsCarriedOut Holds desk told failed item outcome.Status desk' told' failed' = (item.item ≡ status) × IsLeft desk told failed desk' told' failed'
+IsCarriedOut Holds lengths desk told failed item outcome.Sync desk' told' failed' = (is_sync item.item ≡ true) × IsLeft desk told failed desk' told' failed'
+IsCarriedOut Holds lengths desk told failed item (outcome.Cancel number) desk' told' failed' = (item.item ≡ cancel number) × IsLeft desk told failed desk' told' failed'
+IsCarriedOut Holds lengths desk told failed item outcome.Status desk' told' failed' = (item.item ≡ status) × IsLeft desk told failed desk' told' failed'

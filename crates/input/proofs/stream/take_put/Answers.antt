@@ -44,7 +44,7 @@ returns-in-Ok g c =
       Consumes-trans _ _ _ bytes last taken closed,
       λ line is.
           takes_next c.go_on_after.result c.args.number c.saturating_add-lines.result line (bytes ++ last) _ _ c.in-Ok.item
-          (put c.args.name.now bytes) c.go_on_after.ensures (c.in-Ok.ensures c.args.size bytes holds long)
+          (put c.args.name.now bytes) c.go_on_after.ensures (c.in-Ok.ensures bytes holds long)
           (λ few.
           step_closed c.args.number c.args.size line c.args.name.now bytes is long last _ closes
           (omega (arith, few, c.saturating_add-lines.ensures, counts.1))),
@@ -66,7 +66,7 @@ returns-in-Ok-put_item g c =
       Consumes-trans _ _ _ bytes last taken closed,
       λ line is. record {
         item = put c.args.name.now bytes;
-        shows = c.in-Ok-put_item.ensures c.args.size bytes holds long;
+        shows = c.in-Ok-put_item.ensures bytes holds long;
         whole = step_last c.args.number c.args.size line c.args.name.now bytes is long last _ _ (end_later _ _ _ bytes taken closes.1) closes.0;
       },
     )

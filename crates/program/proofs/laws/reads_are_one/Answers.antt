@@ -7,4 +7,4 @@ returns-clause-read g c = λ path all most bytes only is.
     subst (λ (found : Option (List ℕ)). IfSome found (λ all. bytes ≡ take most all)) (only is.all is.opened) is.read
 
 pub returns-clause-load : goal.returns-clause-load
-returns-clause-load g c = λ path bytes none is. none is.regular
+returns-clause-load g c = λ most path bytes none is. none is.regular

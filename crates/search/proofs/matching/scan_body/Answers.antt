@@ -4,15 +4,10 @@ use Rattle.prepare.specs.Tests.{test_of}
 use Rattle.lines.specs.Lines.{lines_of}
 use Rattle.index.specs.Text.{greatest_body}
 use Rattle.views.specs.Found.{numbered, lines_of_document}
-use Rattle.search.proofs.PieceLemmas.{rest_of, short_pieces, room_for_lines, room_after, numbered-pieces}
+use Rattle.search.proofs.PieceLemmas.{rest_of, room_for_lines, room_after, numbered-pieces}
 use Rattle.search.proofs.PlaceLemmas.{first_is_there, rest_is_there, go_on}
 use Rattle.search.proofs.UpToLemmas.{all_added, cut_here, last_added, reached, not_reached, selection_of_text}
 use Rattle.search.proofs.matching.scan_body.Goals as goal
-
-pub scan_piece-requires-clause-short : goal.scan_piece-requires-clause-short
-scan_piece-requires-clause-short g c =
-    let at = c.loop-end in
-    (short_pieces at.rest.now at.end (at.invariant.piece.whole_lines c.loop-end-test.true) at.invariant.short).0
 
 pub overflow_cast-line : goal.overflow_cast-line
 overflow_cast-line g c =
@@ -51,7 +46,6 @@ loop-end-preserved g c =
           (c.in_ok-scan_piece.ensures.places body name
           (first_is_there body at.offset text at.end at.invariant.piece.inside at.invariant.there)));
       way = c.scan_piece.ensures.way;
-      short = (short_pieces text at.end whole_lines at.invariant.short).1;
       there = rest_is_there body at.offset text at.end at.invariant.piece.inside at.invariant.there;
       place =
           omega (

@@ -1,8 +1,8 @@
-use Rattle.std.proofs.Common.{◌≡◌, ◌+◌, ◌≤◌, ℕ, false, List, length}
+use Rattle.std.proofs.Common.{◌≡◌, ◌+◌, ◌≤◌, ℕ, List, length}
 use Rattle.ere.specs.Tree.{form}
 use Rattle.prepare.specs.Tests.{test_of}
 use Rattle.lines.specs.Lines.{lines_of}
-use Rattle.index.specs.Text.{greatest_body, has_long_line}
+use Rattle.index.specs.Text.{greatest_body}
 use Rattle.search.specs.Private.Pieces.{IsPiece}
 use Rattle.views.specs.Found.{numbered, lines_of_document}
 use Rattle.search.specs.Private.Added.{HasTextAt}
@@ -15,7 +15,6 @@ invariant-loop-end g l = record {
   so_far : (name : List ℕ) → AddsSoFar (test_of l.test) l.document name l.body (numbered name l.line (lines_of l.rest))
       (lines_of_document name l.body) l.initial.places.items l.places.items;
   way : Finds (form l.test.tree) l.way;
-  short : has_long_line l.rest ≡ false;
   there : HasTextAt l.body l.offset l.rest;
   place : l.offset + length l.rest ≤ greatest_body;
   room : l.line + length l.rest ≤ 1 + greatest_body;

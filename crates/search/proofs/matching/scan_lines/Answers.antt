@@ -6,13 +6,10 @@ use Rattle.prepare.specs.Tests.{test_of}
 use Rattle.lines.specs.Lines.{lines_of}
 use Rattle.views.specs.Found.{found, numbered}
 use Rattle.search.specs.Private.Added.{AddsPlaces}
-use Rattle.views.proofs.LineLemmas.{length-first, length-last, short-rest, room-rest, numbered-first, numbered-last, numbered-empty}
+use Rattle.views.proofs.LineLemmas.{room-rest, numbered-first, numbered-last, numbered-empty}
 use Rattle.search.proofs.PlaceLemmas.{first_is_there, rest_is_there, go_on, at_end, at_last}
 use Rattle.search.proofs.UpToLemmas.{first_all, cut_here, reached, selection_of_text}
 use Rattle.search.proofs.matching.scan_lines.Goals as goal
-
-pub scan_line-requires-clause-short : goal.scan_line-requires-clause-short
-scan_line-requires-clause-short c = length-first c.loop-end.rest.now c.in-Some.end c.loop-end.invariant.short c.in-Some.ensures
 
 pub loop-end-preserved : goal.loop-end-preserved
 loop-end-preserved c =
@@ -30,7 +27,6 @@ loop-end-preserved c =
           (numbered-first name at.line text end c.in-Some.ensures) (at.invariant.so_far body name there)
           (c.in_ok-scan_line.ensures.places name body (first_is_there body at.at text end (omega arith) (at.invariant.there body there)));
       way = c.scan_line.ensures.way;
-      short = short-rest text end at.invariant.short c.in-Some.ensures;
       there = λ body there. rest_is_there body at.at text (end + 1) (omega arith) (at.invariant.there body there);
       place = omega (arith, at.invariant.place, length-take (length text - (end + 1)) (drop (end + 1) text), length-drop (end + 1) text);
       room = room-rest at.line (c.args.from + length c.args.text.now) text end c.in-Some.ensures at.invariant.room;
@@ -45,9 +41,6 @@ returns-then-is_empty-clause-places c = λ body name there.
     (at_end (test_of c.args.test.now) c.args.document name body (numbered name at.line (lines_of at.rest.now))
     (numbered name c.args.from (lines_of c.args.text.now)) c.args.places.now.items at.places.items
     (numbered-empty name at.line at.rest.now empty) (at.invariant.so_far body name there))
-
-pub scan_line-requires-2-clause-short : goal.scan_line-requires-2-clause-short
-scan_line-requires-2-clause-short c = length-last c.loop-end.rest.now c.loop-end.invariant.short c.in_default.ensures
 
 pub returns-clause-places : goal.returns-clause-places
 returns-clause-places c =

@@ -1,8 +1,7 @@
-use Rattle.std.proofs.Common.{◌≡◌, ◌+◌, ◌≤◌, ℕ, false, List, length}
+use Rattle.std.proofs.Common.{◌≡◌, ◌+◌, ◌≤◌, ℕ, List, length}
 use Rattle.lines.specs.Lines.{lines_of}
 use Rattle.ere.specs.Tree.{form}
 use Rattle.prepare.specs.Tests.{test_of}
-use Rattle.index.specs.Text.{has_long_line}
 use Rattle.views.specs.Found.{numbered}
 use Rattle.search.specs.Private.Added.{HasTextAt}
 use Rattle.search.specs.Private.Ways.{Finds}
@@ -15,7 +14,6 @@ invariant-loop-end l = record {
       → AddsSoFar (test_of l.test) l.document name body (numbered name l.line (lines_of l.rest)) (numbered name l.from (lines_of l.text))
       l.initial.places.items l.places.items;
   way : Finds (form l.test.tree) l.way;
-  short : has_long_line l.rest ≡ false;
   there : (body : List ℕ) → HasTextAt body l.offset l.text → HasTextAt body l.at l.rest;
   place : l.at + length l.rest ≡ l.offset + length l.text;
   room : l.line + length l.rest ≤ l.from + length l.text;

@@ -21,20 +21,20 @@ loop-document-preserved g c =
       so_far =
           keeps_none (IsNamed (test_of c.args.test.now)) (into_iter_items c.into_iter-document-iterator.result) at.kept.items
           (into_iter_items at.document-iterator) (into_iter_items c.next.new.self) c.in-Some.document steps at.invariant.so_far
-          (λ h. false≢true (sym c.if-passes.false ∙ (passed_by_name (test_of c.args.test.now) c.in-Some.document.name _ c.passes.result c.as_bytes.ensures.bytes c.passes.ensures.passes).1 h));
+          (λ h. false≢true (sym c.if-passed.false ∙ (passed_by_name (test_of c.args.test.now) c.in-Some.document.name _ c.in_ok-passed.passed c.as_bytes.ensures.bytes c.in_ok-passed.ensures.passes).1 h));
       len = (let gone = c.in-Some.ensures.steps.1 in let short = ap length steps in omega (arith, at.invariant.len));
       way = c.passes.ensures.way;
     }
 
-pub loop-document-preserved-in-Continue-branch-2 : goal.loop-document-preserved-in-Continue-branch-2
-loop-document-preserved-in-Continue-branch-2 g c =
+pub loop-document-preserved-in-Continue-branch-3 : goal.loop-document-preserved-in-Continue-branch-3
+loop-document-preserved-in-Continue-branch-3 g c =
     let at = c.loop-document in
     let steps : into_iter_items at.document-iterator ≡ c.in-Some.document ∷ into_iter_items c.next.new.self = c.in-Some.ensures.steps.0 in
     record {
       so_far =
           keeps_one (IsNamed (test_of c.args.test.now)) (into_iter_items c.into_iter-document-iterator.result) at.kept.items
           (into_iter_items at.document-iterator) (into_iter_items c.next.new.self) c.in-Some.document steps at.invariant.so_far
-          c.push.new.self.items ((passed_by_name (test_of c.args.test.now) c.in-Some.document.name _ c.passes.result c.as_bytes.ensures.bytes c.passes.ensures.passes).0 c.if-passes.true) c.in_ok-push.ensures.items;
+          c.push.new.self.items ((passed_by_name (test_of c.args.test.now) c.in-Some.document.name _ c.in_ok-passed.passed c.as_bytes.ensures.bytes c.in_ok-passed.ensures.passes).0 c.if-passed.true) c.in_ok-push.ensures.items;
       len = (let gone = c.in-Some.ensures.steps.1 in let short = ap length steps in omega (arith, at.invariant.len));
       way = c.passes.ensures.way;
     }

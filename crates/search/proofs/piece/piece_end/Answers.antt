@@ -1,5 +1,6 @@
-use Rattle.search.proofs.PieceLemmas.{whole_piece}
+use Rattle.std.proofs.Common.{subst}
+use Rattle.engine.specs.FirstLine.{HasNoFeed}
 use Rattle.search.proofs.piece.piece_end.Goals as goal
 
-pub returns-in-0 : goal.returns-in-0
-returns-in-0 c = whole_piece c.args.text.now c.line_start.result c.line_start.ensures c.in-0.is c.if-text-le-MAX_PIECE.false
+pub first_line_end-requires-clause-no_feed : goal.first_line_end-requires-clause-no_feed
+first_line_end-requires-clause-no_feed c = subst (λ n. HasNoFeed c.args.text.now n 65536) c.in-0.is c.line_start.ensures.no_feed

@@ -8,62 +8,55 @@ pub returns-in-Put-clause-done : goal.returns-in-Put-clause-done
 returns-in-Put-clause-done g c = λ shown shows.
     let is = rw c.in-Put.is at shows in
     rw (is, ← c.deref.ensures.value)
-    (carried_put _ c.args.desk.now c.args.told.now _ c.args.read.line c.put.result _ c.entry_of.ensures c.deref.result.now
+    (carried_put _ c.args.lengths c.args.desk.now c.args.told.now _ c.args.read.line c.put.result _ c.entry_of.ensures c.deref.result.now
     c.in-Put.body.items _ (c.put.ensures.entry c.args.read.line) c.put.ensures.desk)
 
-pub returns-in-LongPut-clause-done : goal.returns-in-LongPut-clause-done
-returns-in-LongPut-clause-done g c = λ shown shows.
-    let is = rw c.in-LongPut.is at shows in
-    rw (is.1, ← c.deref-in-LongPut.ensures.value)
-    (carried_put _ c.args.desk.now c.args.told.now _ c.args.read.line (Err c.reason_of_long_put.result) _ c.entry_of-in-LongPut.ensures
-    c.deref-in-LongPut.result.now is.0 _ (c.reason_of_long_put.ensures _ _ is.0 c.args.read.line is.2) refl)
-
-pub returns-in-LostPut-clause-done : goal.returns-in-LostPut-clause-done
-returns-in-LostPut-clause-done g c = λ shown shows.
-    let is = rw c.in-LostPut.is at shows in
-    rw (is.1, ← c.deref-in-LostPut.ensures.value)
-    (carried_put _ c.args.desk.now c.args.told.now _ c.args.read.line (Err c.reason_of_lost_put.result) _ c.entry_of-in-LostPut.ensures
-    c.deref-in-LostPut.result.now is.0 _ (c.reason_of_lost_put.ensures _ _ is.0 c.args.read.line) refl)
+pub returns-in-SkippedPut-clause-done : goal.returns-in-SkippedPut-clause-done
+returns-in-SkippedPut-clause-done g c = λ shown shows.
+    let is = rw c.in-SkippedPut.is at shows in
+    rw (is.1, ← c.deref-in-SkippedPut.ensures.value)
+    (carried_put _ c.args.lengths c.args.desk.now c.args.told.now _ c.args.read.line (Err c.reason_of_skipped_put-reason.result) _ c.entry_of-in-SkippedPut.ensures
+    c.deref-in-SkippedPut.result.now is.0 _ (c.reason_of_skipped_put-reason.ensures _ _ is.0 c.args.read.line is.2) refl)
 
 pub returns-in-Load-clause-done : goal.returns-in-Load-clause-done
 returns-in-Load-clause-done g c = λ shown shows.
     let is = rw c.in-Load.is at shows in
     rw (is, ← c.deref-in-Load.ensures.value, ← c.deref-in-Load-2.ensures.value)
-    (carried_load _ c.args.desk.now c.args.told.now _ c.args.read.line c.load.result _ c.entry_of-in-Load.ensures _ _ _ _ c.load.ensures.entry)
+    (carried_load _ c.args.lengths c.args.desk.now c.args.told.now _ c.args.read.line c.load.result _ c.entry_of-in-Load.ensures _ _ _ _ c.load.ensures.entry)
 
 pub returns-in-Remove-clause-done : goal.returns-in-Remove-clause-done
 returns-in-Remove-clause-done g c = λ shown shows.
     let is = rw c.in-Remove.is at shows in
     rw (is, ← c.deref-in-Remove.ensures.value)
-    (carried_remove _ c.args.desk.now c.args.told.now _ c.args.read.line c.remove.result _ c.entry_of-in-Remove.ensures _ _
+    (carried_remove _ c.args.lengths c.args.desk.now c.args.told.now _ c.args.read.line c.remove.result _ c.entry_of-in-Remove.ensures _ _
     (c.remove.ensures.entry c.args.read.line) c.remove.ensures.desk)
 
 pub returns-in-Publish-clause-done : goal.returns-in-Publish-clause-done
 returns-in-Publish-clause-done g c = λ shown shows.
     let is = rw c.in-Publish.is at shows in
     rw is
-    (carried_publish _ c.args.desk.now c.args.told.now _ c.args.read.line _ _ _ c.publish.result c.publish_entry.ensures
+    (carried_publish _ c.args.lengths c.args.desk.now c.args.told.now _ c.args.read.line _ _ _ c.publish.result c.publish_entry.ensures
     c.publish.ensures.ok c.publish.ensures.err c.publish.ensures.accepted c.publish.ensures.opening)
 
 pub returns-in-BadLine-clause-done : goal.returns-in-BadLine-clause-done
 returns-in-BadLine-clause-done g c = λ shown shows.
     let is = rw c.in-BadLine.is at shows in
-    rw (is, c.refused.ensures) (carried_refused _ c.args.desk.now c.args.told.now _ c.args.read.line _ item.bad_line reason.BadLine refl refl refl refl refl)
+    rw (is, c.refused.ensures) (carried_refused _ c.args.lengths c.args.desk.now c.args.told.now _ c.args.read.line _ item.bad_line reason.BadLine refl refl refl refl refl)
 
 pub returns-in-BadPut-clause-done : goal.returns-in-BadPut-clause-done
 returns-in-BadPut-clause-done g c = λ shown shows.
     let is = rw c.in-BadPut.is at shows in
-    rw (is, c.refused-in-BadPut.ensures) (carried_refused _ c.args.desk.now c.args.told.now _ c.args.read.line _ item.bad_put reason.BadPut refl refl refl refl refl)
+    rw (is, c.refused-in-BadPut.ensures) (carried_refused _ c.args.lengths c.args.desk.now c.args.told.now _ c.args.read.line _ item.bad_put reason.BadPut refl refl refl refl refl)
 
 pub returns-in-Truncated-clause-done : goal.returns-in-Truncated-clause-done
 returns-in-Truncated-clause-done g c = λ shown shows.
     let is = rw c.in-Truncated.is at shows in
-    rw (is, c.refused-in-Truncated.ensures) (carried_refused _ c.args.desk.now c.args.told.now _ c.args.read.line _ item.truncated reason.Truncated refl refl refl refl refl)
+    rw (is, c.refused-in-Truncated.ensures) (carried_refused _ c.args.lengths c.args.desk.now c.args.told.now _ c.args.read.line _ item.truncated reason.Truncated refl refl refl refl refl)
 
 pub returns-in-BodyNotClosed-clause-done : goal.returns-in-BodyNotClosed-clause-done
 returns-in-BodyNotClosed-clause-done g c = λ shown shows.
     let is = rw c.in-BodyNotClosed.is at shows in
-    rw (is, c.refused-in-BodyNotClosed.ensures) (carried_refused _ c.args.desk.now c.args.told.now _ c.args.read.line _ item.body_not_closed reason.BodyNotClosed refl refl refl refl refl)
+    rw (is, c.refused-in-BodyNotClosed.ensures) (carried_refused _ c.args.lengths c.args.desk.now c.args.told.now _ c.args.read.line _ item.body_not_closed reason.BodyNotClosed refl refl refl refl refl)
 
 pub returns-in-Search-clause-done : goal.returns-in-Search-clause-done
 returns-in-Search-clause-done g c = λ shown shows. let is = rw c.in-Search.is at shows in rw (is, c.new.ensures) (refl, refl, (refl, refl, refl))

@@ -7,7 +7,7 @@ abbrev pub invariant-loop-rest : goal.invariant-loop-rest
 invariant-loop-rest l = record {
   walk : Walk l.zero l.most l.hits l.document.name l.document.held l.initial.out.items l.out.items l.rows l.line l.next l.rest;
   leads : Leads l.most l.hits l.line l.far l.ahead;
-  room : l.line + length l.rest ≤ 1048577;
+  room : l.line + length l.rest ≤ 67108865;
   few : l.rows + 2 ≤ 2 * l.line;
 }
 

@@ -16,16 +16,16 @@ returns-in-Entry-clause-takes g c = λ shown shows.
     (subst
     (λ s.
     Takes (g.S.Source.holds c.args.source.now)
-    (service_of c.self.inside.desk (is_some c.self.inside.search_ms) c.self.inside.told c.self.inside.kept.items c.self.inside.searches c.self.inside.awaited.items c.self.inside.lasts.items)
+    (service_of c.self.inside.desk c.self.inside.lengths (is_some c.self.inside.search_ms) c.self.inside.told c.self.inside.kept.items c.self.inside.searches c.self.inside.awaited.items c.self.inside.lasts.items)
     item (c.in-Entry.entry ∷ []) s) (sym c.note.ensures.rest)
-    (entered_takes (g.S.Source.holds c.args.source.now) c.self.inside.desk c.self.inside.told _ item c.in-Entry.entry c.carry_out.new.desk
+    (entered_takes (g.S.Source.holds c.args.source.now) c.self.inside.lengths c.self.inside.desk c.self.inside.told _ item c.in-Entry.entry c.carry_out.new.desk
     c.carry_out.new.told _ (c.in-Entry.ensures.done shown shows) _ _ _ _ _ c.note.new.self.kept c.note.ensures.kept))
 
 pub returns-in-Search-clause-takes : goal.returns-in-Search-clause-takes
 returns-in-Search-clause-takes g c = λ shown shows.
     let item = numbered c.args.read.line shown in
     subst (λ o. Takes (g.S.Source.holds c.args.source.now) o item (written_by c.ask.result) c.ask.new.self)
-    (left_same c.self.inside.desk c.self.inside.told _ c.carry_out.new.desk c.carry_out.new.told _ _ _ _ _ _ (c.in-Search.ensures.done shown shows).2 ∙ c.self.view_is)
+    (left_same c.self.inside.desk c.self.inside.told _ c.carry_out.new.desk c.carry_out.new.told _ _ _ _ _ _ _ (c.in-Search.ensures.done shown shows).2 ∙ c.self.view_is)
     (asked_takes (g.S.Source.holds c.args.source.now) _ item c.ask.result c.ask.new.self (rw (c.in-Search.ensures.done shown shows).0 at c.ask.ensures))
 
 pub returns-in-Search-clause-number : goal.returns-in-Search-clause-number
@@ -38,24 +38,24 @@ pub returns-in-Sync-clause-takes : goal.returns-in-Sync-clause-takes
 returns-in-Sync-clause-takes g c = λ shown shows.
     let item = numbered c.args.read.line shown in
     subst (λ s. Takes (g.S.Source.holds c.args.source.now) c.args.self.now item [] s)
-    (sym (left_same c.self.inside.desk c.self.inside.told _ c.carry_out.new.desk c.carry_out.new.told _ _ _ _ _ _ (c.in-Sync.ensures.done shown shows).1 ∙ c.self.view_is))
+    (sym (left_same c.self.inside.desk c.self.inside.told _ c.carry_out.new.desk c.carry_out.new.told _ _ _ _ _ _ _ (c.in-Sync.ensures.done shown shows).1 ∙ c.self.view_is))
     (sync_takes (g.S.Source.holds c.args.source.now) c.args.self.now item (c.in-Sync.ensures.done shown shows).0)
 
 pub returns-in-Cancel-clause-takes : goal.returns-in-Cancel-clause-takes
 returns-in-Cancel-clause-takes g c = λ shown shows.
     let item = numbered c.args.read.line shown in
     subst (λ o. Takes (g.S.Source.holds c.args.source.now) o item (written_by c.cancel.result) c.cancel.new.self)
-    (left_same c.self.inside.desk c.self.inside.told _ c.carry_out.new.desk c.carry_out.new.told _ _ _ _ _ _ (c.in-Cancel.ensures.done shown shows).1 ∙ c.self.view_is)
+    (left_same c.self.inside.desk c.self.inside.told _ c.carry_out.new.desk c.carry_out.new.told _ _ _ _ _ _ _ (c.in-Cancel.ensures.done shown shows).1 ∙ c.self.view_is)
     (cancel_takes (g.S.Source.holds c.args.source.now) _ item _ c.cancel.result c.cancel.new.self (c.in-Cancel.ensures.done shown shows).0 c.cancel.ensures.cancelled)
 
 pub returns-in-Status-clause-takes : goal.returns-in-Status-clause-takes
 returns-in-Status-clause-takes g c = λ shown shows.
     let item = numbered c.args.read.line shown in
     let old =
-    service_of c.carry_out.new.desk (is_some c.self.inside.search_ms) c.carry_out.new.told c.self.inside.kept.items c.self.inside.searches
+    service_of c.carry_out.new.desk c.self.inside.lengths (is_some c.self.inside.search_ms) c.carry_out.new.told c.self.inside.kept.items c.self.inside.searches
     c.self.inside.awaited.items c.self.inside.lasts.items in
     subst (λ o. Takes (g.S.Source.holds c.args.source.now) o item (c.status.result ∷ []) c.status.new.self)
-    (left_same c.self.inside.desk c.self.inside.told _ c.carry_out.new.desk c.carry_out.new.told _ _ _ _ _ _ (c.in-Status.ensures.done shown shows).1 ∙ c.self.view_is)
+    (left_same c.self.inside.desk c.self.inside.told _ c.carry_out.new.desk c.carry_out.new.told _ _ _ _ _ _ _ (c.in-Status.ensures.done shown shows).1 ∙ c.self.view_is)
     (subst (λ s. Takes (g.S.Source.holds c.args.source.now) old item (c.status.result ∷ []) s) (sym c.status.ensures.same)
     (status_takes (g.S.Source.holds c.args.source.now) old item c.status.result (c.in-Status.ensures.done shown shows).0 c.status.ensures.entry))
 
@@ -84,9 +84,9 @@ invariant_of-self g c =
     let done = c.in-Entry.ensures.done some.0 some.1 in
     let item = numbered c.args.read.line some.0 in (
       done.opening ∙ c.self.invariant.0,
-      entered_opening (g.S.Source.holds c.args.source.now) _ _ _ item c.in-Entry.entry _ _ _ done true [] 0 [] [] _ c.self.invariant.0 c.self.invariant.1,
+      entered_opening (g.S.Source.holds c.args.source.now) _ _ _ _ item c.in-Entry.entry _ _ _ done true [] 0 [] [] _ c.self.invariant.0 c.self.invariant.1,
       c.self.invariant.2,
-      entered_is_service (g.S.Source.holds c.args.source.now) _ _ _ item c.in-Entry.entry _ _ _ done _ _ _ _ _ c.self.invariant.3,
+      entered_is_service (g.S.Source.holds c.args.source.now) _ _ _ _ item c.in-Entry.entry _ _ _ done _ _ _ _ _ c.self.invariant.3,
       done.published c.self.invariant.4,
     )
 

@@ -1,7 +1,7 @@
 use Rattle.std.proofs.Common.{◌≡◌, ◌++◌, ◌-◌, length, take, drop, ◌∙◌, ap, arith}
 use Rattle.std.proofs.lemmas.List.{take_all, length-drop}
 use Rattle.views.specs.Text.{text_of_hits}
-use Rattle.views.proofs.parts.Part.text.Goals as goal
+use Rattle.views.proofs.parts.Passage.text.Goals as goal
 
 pub returns : goal.returns
 returns c =

@@ -1,0 +1,40 @@
+use Rattle.std.proofs.Common.{◌++◌, List, drop, take, ap, sym, ◌∙◌, subst, append_assoc, arith}
+use Rattle.std.proofs.lemmas.List.{append-nil, take-append-drop}
+use Rattle.index.specs.Shared.{documents_shared}
+use Rattle.index.specs.declared.document.SharedDocument.{SharedDocument}
+use Rattle.prepare.specs.Prepared.{request_of}
+use Rattle.search.specs.Front.{AreFronted}
+use Rattle.search.specs.Taken.{IsTakenAmong}
+use Rattle.search.proofs.first.take_first.Goals as goal
+
+pub returns-then-len-most : goal.returns-then-len-most
+returns-then-len-most c =
+    let taken = c.in_ok-taken.taken in
+    let up_to = c.in_ok-taken.ensures in
+    subst (λ ds. IsTakenAmong ds c.args.index.now (request_of c.args.prepared.now) taken)
+    (ap (λ ds. taken.candidates.items ++ ds) (up_to.all_or_most (omega (arith, c.len.ensures, c.if-len-most.true, taken.candidates.ok)))
+    ∙ append-nil taken.candidates.items) up_to.is
+
+pub returns : goal.returns
+returns c =
+    let items = c.in_ok-taken.taken.candidates.items in
+    let up_to = c.in_ok-taken.ensures in
+    let few = c.documents_with-few.result in
+    let others = drop few items ++ up_to.others in
+    let same =
+    ap (λ ds. ds ++ others) c.truncate.ensures.items
+    ∙ (sym (append_assoc (take few items) (drop few items) up_to.others) ∙ ap (λ ds. ds ++ up_to.others) (take-append-drop few items)) in
+    record {
+      others = others;
+      taken =
+          record {
+            prepared = up_to.is.prepared;
+            version = up_to.is.version;
+            documents = up_to.is.documents;
+            count = up_to.is.count;
+            is_state = up_to.is.is_state;
+            candidates =
+                subst (λ (ds : List SharedDocument). AreFronted c.args.index.now (request_of c.args.prepared.now).pattern (documents_shared ds)) (sym same)
+                up_to.is.candidates;
+          };
+    }
