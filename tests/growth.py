@@ -729,8 +729,8 @@ def bodies_of_a_publish_are_analysed_by_all_threads(runs):
     yield "bytes in use at once where bodies are analysed side by side", beside, alone * 3 // 4, alone * 5 // 4
 
 
-def documents_that_are_kept(runs):
-    """Twenty documents take the bytes of their bodies and of the gaps between their trigrams, and little more."""
+def documents_that_wait_for_a_publish(runs):
+    """Twenty documents that no publish has shown take the bytes of their bodies, and little more."""
     chance = random.Random(1)
     for length in 45, 75, 100, 140:
         bodies = [b"\n".join(bytes(chance.choices(range(33, 255), k=60)) for _ in range(length)) for _ in range(40)]
@@ -740,17 +740,10 @@ def documents_that_are_kept(runs):
             path.write_bytes(body)
             puts.append(put(b"f%d" % number, body))
             loads.append(b"load f%d %s\n" % (number, bytes(path)))
-        least = sum(len(body) + bytes_of_gaps(body) for body in bodies[20:])
+        least = sum(len(body) for body in bodies[20:])
         for what, items in ("put", puts), ("loaded", loads):
             few, many = (runs.memory(SESSION, b"".join(items[:count]) + b"search y\n").held for count in (20, 40))
             yield f"bytes of 20 documents with {length} lines that are {what}", many - few, least, least + 20 * 400
-
-
-def bytes_of_gaps(body):
-    """How many bytes the gaps between a body's trigrams take, in groups of seven bits."""
-    lines = body.split(b"\n")
-    numbers = sorted({int.from_bytes(line[at : at + 3], "big") for line in lines for at in range(len(line) - 2)})
-    return sum(max((after - before).bit_length() + 6, 7) // 7 for before, after in zip([0] + numbers, numbers))
 
 
 def text_of_many_trigrams(lines):
@@ -972,16 +965,16 @@ def searches_beside_others(runs):
     is one of them. A session reads in a thread of its own."""
     large = b"".join(put(b"f%d" % number, b"some text\n" * 100_000) for number in range(20)) + b"publish\n"
     small = put(b"a", b"some text\n" * 100) + b"publish\n"
-    for way, own in (SCRIPT_BESIDE, 2), (SESSION_BESIDE, 3):
-        for what, script, more in (
-            ("a small search", small + b"search e.*z\n", 0),
-            ("a large search", large + b"search e.*z\n", 2),
-            ("three large searches, one after the other", large + b"search e.*z\nsync\n" * 3, 6),
-        ):
-            yield f"threads of a {way} with {what}", runs.memory(way, script).threads, own + more, own + more
     many = large + b"search e.*z\n" * 20
-    # the last of them can be alone, and go on in three threads
-    yield f"threads of a {SCRIPT_BESIDE} with many searches", runs.memory(SCRIPT_BESIDE, many).threads, 2, 12
+    for way, own in (SCRIPT_BESIDE, 2), (SESSION_BESIDE, 3):
+        yield f"threads of a {way} with a small search", runs.memory(way, small + b"search e.*z\n").threads, own, own
+        # (the publish has threads of its own, and a search that no document can match has none)
+        none, once, thrice = (runs.memory(way, large + search).threads for search in (b"search yyy\n", b"search e.*z\n", b"search e.*z\nsync\n" * 3))
+        yield f"threads more of a {way} with a large search", once - none, 2, 2
+        yield f"threads more of a {way} with three large searches, one after the other", thrice - none, 6, 6
+    # the last of many can be alone, and go on in three threads
+    none = runs.memory(SCRIPT_BESIDE, large + b"search yyy\n").threads
+    yield f"threads more of a {SCRIPT_BESIDE} with many searches", runs.memory(SCRIPT_BESIDE, many).threads - none, 0, 10
     for way in BOTH:
         yield f"threads of a {way} without readers", runs.memory(way, many).threads, 0, 0
     # one part of a search, and more text than one thread forms at a time
@@ -1215,7 +1208,7 @@ CHECKS = [
     copies_of_a_body,
     documents_are_analysed_once,
     bodies_of_a_publish_are_analysed_by_all_threads,
-    documents_that_are_kept,
+    documents_that_wait_for_a_publish,
     trigrams_that_one_document_has,
     documents_that_are_gone,
     pages_of_a_document_that_comes_and_goes,
