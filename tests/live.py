@@ -520,9 +520,9 @@ def client_of_a_folder():
         write(".git/index", b"hello\n")
         write("feed\n.txt", b"one\nhello\n")
         write("binary", b"hello\0\n")
-        write("long", b"hello\n" * 200_000)
-        write("wide", b"hello" * 4_000)
-        write("n" * 200 + " " * 50, b"hello\n")
+        write("long", b"Hullo 1\n" * 200_000 + b"Say hello\n")
+        write("wide", b"hello " * 4_000)
+        write("n" * 200 + " " * 50, b"hello 2\n")
         os.symlink("a.txt", top / "link")
         os.environ["TSEARCH"] = str(PROGRAM)
         with Session(folder, program=[sys.executable, str(CLIENT)]) as client:
@@ -531,19 +531,18 @@ def client_of_a_folder():
                 same(f"the answer to {pattern!r}", sorted(read_to_prompt(client).splitlines(True)), sorted(wanted))
 
             same("what is shown first", read_to_prompt(client), b"")
-            left_out = [b"left out: binary: binary\n", b"left out: long: body too long\n", b"left out: wide: line too long\n"]
-            left_out.append(b"left out: %s%s: name too long\n" % (b"n" * 200, b" " * 50))
+            long = [b"long:200001:Say hello\n", b"wide:1:%s\n" % (b"hello " * 4_000), b"%s%s:1:hello 2\n" % (b"n" * 200, b" " * 50)]
             found = [b"a.txt:1:hello world\n", b"sub/b c:d%.txt:1:say hello\n", b"feed\n", b".txt:2:hello\n"]
-            ask(b"hello", left_out + found)
+            ask(b"hello", [b"left out: binary: binary\n"] + found + long)
             ask(b"^b", [b"a.txt:2:bye\n"])
             ask(b"(", [b"refused: group not closed at 0\n"])
             write("a.txt", b"hello again\n")
             (top / "feed\n.txt").unlink()
             write("binary", b"hello, text\n")
-            ask(b"hello", [b"a.txt:1:hello again\n", b"binary:1:hello, text\n", b"sub/b c:d%.txt:1:say hello\n"])
+            ask(b"hello", [b"a.txt:1:hello again\n", b"binary:1:hello, text\n", b"sub/b c:d%.txt:1:say hello\n"] + long)
             # the old text is not found where the new one is left out
             write("a.txt", b"hello\0\n")
-            ask(b"hello", [b"left out: a.txt: binary\n", b"binary:1:hello, text\n", b"sub/b c:d%.txt:1:say hello\n"])
+            ask(b"hello", [b"left out: a.txt: binary\n", b"binary:1:hello, text\n", b"sub/b c:d%.txt:1:say hello\n"] + long)
             write("a.txt", b"well\n")
             ask(b"^[a-z]*$", [b"a.txt:1:well\n"])
             # the same length and time of change
