@@ -192,7 +192,7 @@ class Server:
         self._called = time.monotonic()
         try:
             await self._serve(reader, writer)
-        except (OSError, asyncio.IncompleteReadError, ValueError):
+        except (OSError, asyncio.IncompleteReadError, asyncio.LimitOverrunError, ValueError):
             pass  # the client is gone, or is none
         finally:
             self._open.discard(task)
