@@ -60,6 +60,10 @@ held_in_part a b c all held so_far last = record {
   appended = Appends-trans a b c so_far.front last.front so_far.appended last.appended;
 }
 
+-- a text that is written but for its end is written in part
+pub front_of_all_but : (a b : Option (List ℕ)) (text rest : List ℕ) → AppendsAllBut a b text rest → AppendsFront a b text
+front_of_all_but a b text rest some = record { front = some.front; rest = rest; whole = some.whole; appended = some.appended }
+
 -- a beginning of a text is one of a longer text
 pub front_of_longer : (a b : Option (List ℕ)) (text more : List ℕ) → AppendsFront a b text → AppendsFront a b (text ++ more)
 front_of_longer a b text more some = record {

@@ -1,8 +1,9 @@
 //! Writing transcripts.
 
-ghost use Rattle.std.specs.Prelude.{◌≡◌, ◌≢◌, ◌≤◌, ◌++◌, List, ℕ, length, take, ◌⊎◌, IfOk, IfErr, OnOk, OnErr, IsErrOf};
+ghost use Rattle.std.specs.Prelude.{◌≡◌, ◌≢◌, ◌≤◌, ◌++◌, List, ℕ, length, take, ◌⊎◌, Ok, IfOk, IfErr, OnOk, OnErr, IsErrOf};
 ghost use Rattle.std.specs.Io.KnownBytes.{Appends, Keeps};
 ghost use Rattle.std.specs.IoError.{error_kind};
+ghost use denote.Param.Send.{IsSync};
 ghost use Rattle.views.specs.Parts.{text_of_parts};
 ghost use Rattle.views.specs.Text.{text_of_hits};
 ghost use Rattle.transcript.specs.Transcript.{text_of_entry, text_of_transcript};
@@ -11,11 +12,11 @@ ghost use Rattle.transcript.specs.Written.{AppendsFront, AppendsAllBut};
 use crate::entry::Entry;
 use crate::texts::append_head;
 use crate::transcript::Transcript;
-use std::alloc::Global;
+use std::alloc::{AllocError, Global};
 use std::io::{Error, ErrorKind, Write};
-use std::thread::Threads;
+use std::thread::{Threads, join_mut};
 use thiserror::Error;
-use views::{Lines, PIECE, Passage, PassageText, append_lines, form_lines};
+use views::{Lines, PIECE, Passage, PassageText, form_lines};
 
 /// Text is written once there are this many bytes of it.
 const PART: usize = 65_536;
@@ -68,9 +69,10 @@ pub fn write_transcript<R: Threads + Sync, W: Write>(
 }
 
 /// Writes the text of an entry, behind that in `text`, which is not written yet. The last bytes, fewer than 65,536, are
-/// left in `text`. Of an answer, only a piece of the text is in memory at a time, besides what was formed with the
-/// answer: of `search::PIECE` bytes or a line for each of `threads`. With two or more of them, the text of a large
-/// answer is formed by so many threads side by side, where they can be started; otherwise none is started.
+/// left in `text`. Of an answer, only two pieces of the text are in memory at a time, besides what was formed with the
+/// answer: each of `views::PIECE` bytes or a line for each of `threads`. With two or more of them, the text of a large
+/// answer is formed by so many threads side by side, where they can be started, while the piece before is written;
+/// otherwise none is started.
 ///
 /// `Failed` means that the writer failed, `Closed` that nobody reads any more what is written, `Stopped` that the
 /// writer took no byte, and `OutOfMemory` that memory ran out for text. After an `Err`, what was written is a beginning
@@ -125,7 +127,8 @@ fn write_parts<R: Threads + Sync, W: Write>(
     Ok(())
 }
 
-/// Writes lines behind `text`, piece by piece. With `zero` they have a zero byte after the name.
+/// Writes lines behind `text`, piece by piece: while one is written, the text of the next is formed. With `zero` they have a
+/// zero byte after the name.
 fn write_lines<R: Threads + Sync, W: Write>(
     rt: &R,
     alloc: Global,
@@ -139,39 +142,63 @@ fn write_lines<R: Threads + Sync, W: Write>(
     ensures err { OnErr result (AppendsFront (W.contents out.old) (W.contents out.new) (text.old.items ++ text_of_hits zero lines.entry)) }
 {
     let most = threads.max(1).saturating_mul(PIECE);
+    let mut formed = Vec::new(alloc);
     let mut rest = lines;
     while !rest.is_empty() {
         let count = rest.count_within(most);
         let (piece, others) = rest.split_at(count);
-        if let Err(error) = write_piece(rt, alloc, threads, zero, piece, text, out) {
-            return Err(error);
+        match write_and_form(rt, alloc, threads, zero, &formed, &piece, text, out) {
+            Ok(next) => formed = next,
+            Err(error) => return Err(error),
         }
         rest = others;
     }
-    Ok(())
+    write_behind(&formed, text, out)
 }
 
-/// Forms the text of a piece, and writes it behind `text`.
-fn write_piece<R: Threads + Sync, W: Write>(
+/// Writes bytes behind `text`, and returns the text of a piece. With two or more `threads` it is formed meanwhile.
+#[tactic(auto, using(crate::proofs::WriteLemmas::front_of_all_but))]
+fn write_and_form<R: Threads + Sync, W: Write>(
     rt: &R,
     alloc: Global,
     threads: usize,
     zero: bool,
-    piece: Lines<'_>,
+    bytes: &[u8],
+    piece: &Lines<'_>,
     text: &mut Vec<u8>,
     out: &mut W,
-) -> Result<(), WriteError>
-    ensures ok { OnOk result (AppendsAllBut (W.contents out.old) (W.contents out.new) (text.old.items ++ text_of_hits zero piece.entry) text.new.items) }
-    ensures err { OnErr result (AppendsFront (W.contents out.old) (W.contents out.new) (text.old.items ++ text_of_hits zero piece.entry)) }
+) -> Result<Vec<u8>, WriteError>
+    ensures next { IfOk result (λ next. next.items ≡ text_of_hits zero piece.now) }
+    ensures ok { OnOk result (AppendsAllBut (W.contents out.old) (W.contents out.new) (text.old.items ++ bytes.now) text.new.items) }
+    ensures err { OnErr result (AppendsFront (W.contents out.old) (W.contents out.new) (text.old.items ++ bytes.now)) }
 {
-    if threads < 2 {
-        if append_lines(text, zero, piece).is_err() {
-            return Err(WriteError::OutOfMemory);
-        }
-        return write_part(out, text);
+    if threads < 2 || bytes.is_empty() {
+        return match write_behind(bytes, text, out) {
+            Ok(()) => text_or_fault(form_lines(rt, alloc, zero, piece, threads)),
+            Err(error) => Err(error),
+        };
     }
-    match form_lines(rt, alloc, zero, &piece, threads) {
-        Ok(formed) => write_behind(&formed, text, out),
+    let mut ahead = || -> Result<Vec<u8>, AllocError>
+        requires { IsSync R.row }
+        ensures { IfOk result (λ next. next.items ≡ text_of_hits zero piece.entry.now) }
+    { form_lines(rt, alloc, zero, piece, threads) };
+    let mut behind = || -> Result<(), WriteError>
+        ensures ok { OnOk result (AppendsAllBut (W.contents out.entry.now) (W.contents out.exit.now) (text.entry.now.items ++ bytes.entry.now) text.exit.now.items) }
+        ensures err { OnErr result (AppendsFront (W.contents out.entry.now) (W.contents out.exit.now) (text.entry.now.items ++ bytes.entry.now)) }
+    { write_behind(bytes, text, out) };
+    let (next, written) = join_mut(rt, &mut ahead, &mut behind);
+    match written {
+        Ok(()) => text_or_fault(next),
+        Err(error) => Err(error),
+    }
+}
+
+/// The text, or that memory ran out for it.
+fn text_or_fault(text: Result<Vec<u8>, AllocError>) -> Result<Vec<u8>, WriteError>
+    ensures { IfOk result (λ formed. text ≡ Ok formed) }
+{
+    match text {
+        Ok(text) => Ok(text),
         Err(_) => Err(WriteError::OutOfMemory),
     }
 }
