@@ -564,9 +564,13 @@ fn answer_last<R: Wait + Clock>(
     reading.learn(told);
     let mut look = Look::at(rt, wish);
     for _ in rt.forever() {
-        let answer = search(alloc, reading, prepared, &NoGate, 0, &mut look)?;
-        if answer.version() == told.version() {
-            return Ok(answer);
+        match search(alloc, reading, prepared, &NoGate, 0, &mut look) {
+            Ok(answer) => {
+                if answer.version() == told.version() {
+                    return Ok(answer);
+                }
+            }
+            Err(error) => return Err(error),
         }
     }
     unreachable!()
