@@ -34,6 +34,7 @@ def runs_over(small, large, more, headers):
         ("trees", [large]),
         ("finds", [small]),
         *[("finds", [tree, "go"]) for tree in more],
+        ("filling", trees),
         ("live", trees),
         ("waits", trees),
         ("sessions", [headers]),
@@ -62,6 +63,7 @@ def runs_over(small, large, more, headers):
 SECTIONS = {
     "trees": "Source trees",
     "finds": "Searches with options",
+    "filling": "Filling",
     "live": "Memory and changes",
     "waits": "Statuses after a large publish",
     "sessions": "Sessions with readers",
