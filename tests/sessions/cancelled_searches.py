@@ -29,6 +29,7 @@ ROUNDS, OPEN, BATCHES = 2, 1_000, 80
 # While so many searches are open, no item is taken.
 MOST_OPEN = 1_024
 MANY, LENGTH = 2_000, 15_000
+MOST_LINE = 67_108_864
 LETTERS = bytes(b"ab"[byte % 2] for byte in range(256))
 
 
@@ -194,6 +195,27 @@ def spans_are_given_up_within_a_line():
         session.ask(b"cancel 1\nsearchin ^c$ x\n", CANCELLED % 1 + b"search 2 version 1 lines 0\n")
         session.ask(find, TOO_SLOW % 3)
         session.ask(b"searchin ^c$ x\n", b"search 4 version 1 lines 0\n")
+        session.end(2)
+
+
+def a_search_is_given_up_within_one_long_line():
+    """A line of 64 MiB would be read for minutes, by a simulation, as it is, for those that do not match, and for its spans. The search is
+    cancelled, and then one like it is too slow; each time its reader has the next search at once."""
+    source = random.Random(1)
+    slow = b"x" + source.randbytes(MOST_LINE - 1).translate(LETTERS)
+    bodies = put(b"slow", slow) + put(b"spans", b"a" * MOST_LINE)
+    finds = b"search %s\n" % SLOW, b"find -c -v -- %s\n" % SLOW, b"find --spans -n ^spans$ -- (a|aa)*b|a\n"
+    with Session("--readers", "1", "--search-ms", "2000", "--max-body", b"%d" % MOST_LINE, "--max-line", b"%d" % MOST_LINE) as session:
+        session.send(bodies + b"publish\n")
+        session.ask(b"searchin ^c$ x\n", b"search 1 version 2 lines 0\n")
+        for number, find in enumerate(finds):
+            cancelled, quick, slow, last = range(4 * number + 2, 4 * number + 6)
+            session.send(find)
+            session.expect_quiet()
+            answer = b"search %d version 2 lines 0\n"
+            session.ask(b"cancel %d\nsearchin ^c$ x\n" % cancelled, CANCELLED % cancelled + answer % quick)
+            session.ask(find, TOO_SLOW % slow)
+            session.ask(b"searchin ^c$ x\n", answer % last)
         session.end(2)
 
 
@@ -520,6 +542,7 @@ WITH_READERS = [
 WITH_EACH = [long_searches_are_too_slow, searches_have_much_time]
 ONCE = [
     spans_are_given_up_within_a_line,
+    a_search_is_given_up_within_one_long_line,
     searches_are_given_up_within_a_document,
     searches_are_given_up_before_columns,
     searches_are_given_up_while_names_are_matched,

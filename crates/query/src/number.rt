@@ -2,6 +2,7 @@
 
 ghost use Rattle.std.specs.Prelude.{◌≡◌, ◌<◌, ◌^◌, slice_index};
 ghost use Rattle.query.specs.Trigrams.{trigram_of};
+ghost use Rattle.query.specs.declared.number.TheConstants.{TRIGRAMS};
 
 use std::marker::Model;
 
@@ -38,6 +39,14 @@ impl Trigram {
         Trigram {
             value: 65536 * first as u32 + 256 * second as u32 + third as u32,
         }
+    }
+
+    /// The trigram with this number.
+    pub(crate) fn numbered(number: u32) -> Trigram
+        requires { number < TRIGRAMS }
+        ensures { result ≡ number }
+    {
+        Trigram { value: number }
     }
 
     /// Its number: 65536 times the first byte, plus 256 times the second, plus the third; below 2^24.

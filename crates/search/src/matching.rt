@@ -17,7 +17,7 @@ ghost use Rattle.search.specs.Private.Ways.{Finds, AreFew};
 use crate::piece::piece_end;
 use crate::unanswered::Unanswered;
 use crate::watch::{Watch, ask};
-use crate::way::{Way, passes};
+use crate::way::{MOST_BY_ENGINE, Way, passes};
 use engine::{Finder, lines_before};
 use index::{Body, SharedDocument};
 use matcher::is_quick;
@@ -164,6 +164,7 @@ fn scan_body<W: Watch>(
             &rest[..end],
             most,
             places,
+            watch,
         )?;
         if is_reached(most, places.len()) {
             return Ok(());
@@ -174,13 +175,13 @@ fn scan_body<W: Watch>(
         rest = &rest[end..];
         end = piece_end(rest);
     }
-    scan_piece(test, way, document, offset, line, rest, most, places)?;
+    scan_piece(test, way, document, offset, line, rest, most, places, watch)?;
     Ok(())
 }
 
 /// Adds the places of the lines that pass the test of a text of whole lines, of which the first has the number `from`, until
 /// there are `most`. The text is at this offset of its body.
-fn scan_piece(
+fn scan_piece<W: Watch>(
     test: &Test,
     way: &mut Way<'_>,
     document: u32,
@@ -189,20 +190,24 @@ fn scan_piece(
     text: &[u8],
     most: Option<usize>,
     places: &mut Vec<Place>,
-) -> Result<(), AllocError>
+    watch: &mut W,
+) -> Result<(), Unanswered>
     requires way { Finds (form test.now.tree) way.old }
     requires inside { offset + length text.now ≤ greatest_body }
     requires room { from + length text.now ≤ 1 + greatest_body }
     ensures way { Finds (form test.now.tree) way.new }
     ensures places { OnOk result ((body : List ℕ) → AddsLinesUpTo most (test_of test.now) document body offset from text.now
         places.old.items places.new.items) }
+    ensures called_off { IfErr result (IsCalledOffOnlyIf (W.has_said_no watch.new)) }
 {
-    if !test.inverted {
+    // A longer text is one line.
+    if !test.inverted && text.len() <= MOST_BY_ENGINE {
         if let Way::FromMatchToMatch(finder) = way {
-            return sweep_lines(finder, document, offset, from, text, most, places);
+            sweep_lines(finder, document, offset, from, text, most, places)?;
+            return Ok(());
         }
     }
-    scan_lines(test, way, document, offset, from, text, most, places)
+    scan_lines(test, way, document, offset, from, text, most, places, watch)
 }
 
 /// Adds the places of the lines that pass the test, until there are `most`, looking for each in what is left after the one
@@ -247,7 +252,7 @@ fn sweep_lines(
 }
 
 /// Adds the places of the lines that pass the test, until there are `most`, looking at each line by itself.
-fn scan_lines(
+fn scan_lines<W: Watch>(
     test: &Test,
     way: &mut Way<'_>,
     document: u32,
@@ -256,19 +261,21 @@ fn scan_lines(
     text: &[u8],
     most: Option<usize>,
     places: &mut Vec<Place>,
-) -> Result<(), AllocError>
+    watch: &mut W,
+) -> Result<(), Unanswered>
     requires way { Finds (form test.now.tree) way.old }
     requires inside { offset + length text.now ≤ greatest_body }
     requires room { from + length text.now ≤ 1 + greatest_body }
     ensures way { Finds (form test.now.tree) way.new }
     ensures places { OnOk result ((body : List ℕ) → AddsLinesUpTo most (test_of test.now) document body offset from text.now
         places.old.items places.new.items) }
+    ensures called_off { IfErr result (IsCalledOffOnlyIf (W.has_said_no watch.new)) }
 {
     let mut rest = text;
     let mut at = offset;
     let mut line = from;
     while let Some(end) = memchr(b'\n', rest) {
-        scan_line(test, way, document, at, line, &rest[..end], places)?;
+        scan_line(test, way, document, at, line, &rest[..end], places, watch)?;
         at += end as u32 + 1;
         rest = &rest[end + 1..];
         line += 1;
@@ -279,11 +286,11 @@ fn scan_lines(
     if rest.is_empty() {
         return Ok(());
     }
-    scan_line(test, way, document, at, line, rest, places)
+    scan_line(test, way, document, at, line, rest, places, watch)
 }
 
-/// Adds the place of a line if it passes the test. An `Err` means that memory ran out.
-fn scan_line(
+/// Adds the place of a line if it passes the test.
+fn scan_line<W: Watch>(
     test: &Test,
     way: &mut Way<'_>,
     document: u32,
@@ -291,16 +298,18 @@ fn scan_line(
     line: u32,
     text: &[u8],
     places: &mut Vec<Place>,
-) -> Result<(), AllocError>
+    watch: &mut W,
+) -> Result<(), Unanswered>
     requires way { Finds (form test.now.tree) way.old }
     requires no_feed { (k : ℕ) → k < length text.now → slice_index text.now k ≢ 10 }
     requires inside { offset + length text.now ≤ greatest_body }
     ensures way { Finds (form test.now.tree) way.new }
     ensures places { OnOk result ((name body : List ℕ) → HasTextAt body offset text.now
         → AddsPlaces (test_of test.now) document name body (found name line text.now ∷ []) places.old.items places.new.items) }
+    ensures called_off { IfErr result (IsCalledOffOnlyIf (W.has_said_no watch.new)) }
 {
     let alloc = *places.allocator();
-    let passed = passes(alloc, test, way, text)?;
+    let passed = passes(alloc, test, way, text, watch)?;
     if !passed {
         return Ok(());
     }

@@ -76,7 +76,7 @@ fn with_names_by<W: Watch>(
     let mut kept = Vec::new(alloc);
     for document in documents {
         ask(watch)?;
-        let passed = passes(alloc, test, way, document.name.as_bytes())?;
+        let passed = passes(alloc, test, way, document.name.as_bytes(), watch)?;
         if passed {
             kept.push(document)?;
         }

@@ -16,7 +16,7 @@ ghost use Rattle.search.specs.Rows.{shown_tree};
 use crate::gathered::Wanted;
 use crate::unanswered::Unanswered;
 use crate::watch::{Watch, ask};
-use crate::way::compile;
+use crate::way::{MOST_BY_ENGINE, compile};
 use engine::{Compiled, Finder};
 use ere::{Ere, is_word_byte};
 use prepare::Prepared;
@@ -123,6 +123,9 @@ impl<'p> Seeker<'p> {
         if whole_words {
             return halved_start(&mut self.simulation, line, true, watch);
         }
+        if line.len() > MOST_BY_ENGINE {
+            return halved_start(&mut self.simulation, line, false, watch);
+        }
         match &mut self.finder {
             Some(finder) => {
                 // Whether an empty match is at the front is known without a pass.
@@ -153,6 +156,9 @@ impl<'p> Seeker<'p> {
         ensures tried { IfOk result (λ tried. (tree : Tree) → Seeks tree self.old → IsTried line.now tree whole_words from tried) }
         ensures called_off { IfErr result (IsCalledOffOnlyIf (W.has_said_no watch.new)) }
     {
+        if line.len() > MOST_BY_ENGINE {
+            return Ok(Tried::From(from));
+        }
         match &mut self.finder {
             Some(finder) => try_each(finder, &mut self.simulation, line, from, whole_words, watch),
             None => Ok(Tried::From(from)),
@@ -258,7 +264,8 @@ fn try_each<W: Watch>(
             return Ok(Tried::Span(Span { start, end }));
         }
         ask(watch)?;
-        if let Some(end) = simulation.longest_end(line, start, whole_words) {
+        let longest = simulation.longest_end(line, start, whole_words, watch)?;
+        if let Some(end) = longest {
             return Ok(Tried::Span(Span { start, end }));
         }
         next = start + 1;
@@ -302,7 +309,8 @@ fn halved_span<W: Watch>(
         return Ok(None);
     };
     ask(watch)?;
-    match simulation.longest_end(line, start, whole_words) {
+    let longest = simulation.longest_end(line, start, whole_words, watch)?;
+    match longest {
         Some(end) => Ok(Some(Span { start, end })),
         // A span begins there, so one ends.
         None => Ok(None),
@@ -352,7 +360,8 @@ fn least_start<W: Watch>(
         // A block of positions, each twice as long as the one before, so that a start nearby is found soon.
         let end = first.saturating_add(width).min(past);
         ask(watch)?;
-        if simulation.has_span(line, first, end, whole_words) {
+        let has = simulation.has_span(line, first, end, whole_words, watch)?;
+        if has {
             let start = least_of(simulation, line, first, end, whole_words, watch)?;
             return Ok(Some(start));
         }
@@ -383,7 +392,8 @@ fn least_of<W: Watch>(
     while high - low > 1 {
         let middle = low + (high - low) / 2;
         ask(watch)?;
-        if simulation.has_span(line, low, middle, whole_words) {
+        let has = simulation.has_span(line, low, middle, whole_words, watch)?;
+        if has {
             high = middle;
         } else {
             low = middle;

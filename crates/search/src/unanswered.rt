@@ -1,5 +1,6 @@
 //! Why a search has no answer.
 
+use simulation::CalledOff as GivenUp;
 use std::alloc::{AllocError, AllocFailed};
 
 /// Why a search has no answer.
@@ -30,5 +31,16 @@ impl<T: Drop> From<AllocFailed<T>> for Unanswered {
 
     fn from(_: AllocFailed<T>) -> Unanswered {
         Unanswered::OutOfMemory
+    }
+}
+
+impl From<GivenUp> for Unanswered {
+    ghost use Rattle.std.specs.Prelude.{◌≡◌};
+    ghost use Rattle.search.specs.declared.unanswered.Unanswered.TheVariants.{CalledOff};
+
+    ghost from_gives = { λ _ e. e ≡ CalledOff };
+
+    fn from(_: GivenUp) -> Unanswered {
+        Unanswered::CalledOff
     }
 }

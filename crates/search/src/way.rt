@@ -1,14 +1,17 @@
 //! The ways in which lines that contain a match are found.
 
-ghost use Rattle.std.specs.Prelude.{◌≢◌, ◌<◌, ◌↔◌, ℕ, IfOk, IfSome, IsTrue, length, slice_index};
+ghost use Rattle.std.specs.Prelude.{◌≢◌, ◌<◌, ◌↔◌, ℕ, IfOk, IfErr, IfSome, IsTrue, length, slice_index};
 ghost use Rattle.ere.specs.Tree.{form};
 ghost use Rattle.ere.specs.Language.{ContainsMatch};
 ghost use Rattle.ere.specs.Limits.{IsWithinLimits};
 ghost use Rattle.engine.specs.Patterns.{IsCompiledFrom};
 ghost use Rattle.prepare.specs.Pattern.{Passes};
 ghost use Rattle.prepare.specs.Tests.{test_of};
+ghost use Rattle.search.specs.CalledOff.{IsCalledOffOnlyIf};
 ghost use Rattle.search.specs.Private.Ways.{Finds};
 
+use crate::unanswered::Unanswered;
+use crate::watch::Watch;
 use engine::{Compiled, Finder};
 use ere::Ere;
 use lines::MAX_LINE;
@@ -16,6 +19,10 @@ use matcher::{is_quick, matches};
 use prepare::Test;
 use simulation::Simulation;
 use std::alloc::{AllocError, Global};
+
+/// The longest line that the engine takes, in bytes. A pass of it is not given up before its end, so longer lines go by a
+/// simulation, which asks each 64 KiB.
+pub(crate) const MOST_BY_ENGINE: usize = 1 << 23;
 
 /// How the lines that contain a match of a tree are found. All ways find the same lines.
 #[derive(Drop)]
@@ -64,19 +71,22 @@ pub fn way_by<'p>(
 
 /// Whether the line passes the test, by this way for its tree. The line has no line feed.
 ///
-/// An `Err` means that there is no memory for a simulation, which a line that is too long for the matcher needs.
-pub fn passes(
+/// `watch` is asked each 64 KiB of a line that goes by a simulation: `CalledOff` means that it said that the answer is not
+/// wanted. `OutOfMemory` means that there is no memory for a simulation, which a line that is too long for the way needs.
+pub fn passes<W: Watch>(
     alloc: Global,
     test: &Test,
     way: &mut Way<'_>,
     line: &[u8],
-) -> Result<bool, AllocError>
+    watch: &mut W,
+) -> Result<bool, Unanswered>
     requires no_feed { (k : ℕ) → k < length line.now → slice_index line.now k ≢ 10 }
     requires way { Finds (form test.now.tree) way.old }
     ensures way { Finds (form test.now.tree) way.new }
     ensures passes { IfOk result (λ passed. IsTrue passed ↔ Passes (test_of test.now) line.now) }
+    ensures called_off { IfErr result (IsCalledOffOnlyIf (W.has_said_no watch.new)) }
 {
-    let found = has_match(alloc, &test.tree, way, line)?;
+    let found = has_match(alloc, &test.tree, way, line, watch)?;
     if test.inverted {
         return Ok(!found);
     }
@@ -84,29 +94,60 @@ pub fn passes(
 }
 
 /// Whether the line contains a match of the tree, by this way. The line has no line feed.
-fn has_match(alloc: Global, tree: &Ere, way: &mut Way<'_>, line: &[u8]) -> Result<bool, AllocError>
+fn has_match<W: Watch>(
+    alloc: Global,
+    tree: &Ere,
+    way: &mut Way<'_>,
+    line: &[u8],
+    watch: &mut W,
+) -> Result<bool, Unanswered>
     requires limits { IsWithinLimits (form tree.now) }
     requires no_feed { (k : ℕ) → k < length line.now → slice_index line.now k ≢ 10 }
     requires way { Finds (form tree.now) way.old }
     ensures way { Finds (form tree.now) way.new }
     ensures found { IfOk result (λ found. IsTrue found ↔ ContainsMatch (form tree.now) line.now) }
+    ensures called_off { IfErr result (IsCalledOffOnlyIf (W.has_said_no watch.new)) }
 {
+    if line.len() > MOST_BY_ENGINE {
+        return has_match_in_long(alloc, tree, line, watch);
+    }
     match way {
         Way::FromMatchToMatch(finder) => Ok(finder.matches(line)),
-        Way::Matcher => matches_by_length(alloc, tree, line),
-        Way::Simulation(simulation) => Ok(simulation.matches(line)),
+        Way::Matcher => matches_by_length(alloc, tree, line, watch),
+        Way::Simulation(simulation) => Ok(simulation.matches(line, watch)?),
     }
 }
 
 /// Whether the line contains a match of the tree: by the matcher or, if the line is too long for it, by a simulation that
 /// is made for this line.
-fn matches_by_length(alloc: Global, tree: &Ere, line: &[u8]) -> Result<bool, AllocError>
+fn matches_by_length<W: Watch>(
+    alloc: Global,
+    tree: &Ere,
+    line: &[u8],
+    watch: &mut W,
+) -> Result<bool, Unanswered>
     requires { IsWithinLimits (form tree.now) }
-    ensures { IfOk result (λ found. IsTrue found ↔ ContainsMatch (form tree.now) line.now) }
+    ensures found { IfOk result (λ found. IsTrue found ↔ ContainsMatch (form tree.now) line.now) }
+    ensures called_off { IfErr result (IsCalledOffOnlyIf (W.has_said_no watch.new)) }
 {
     if line.len() <= MAX_LINE {
         return Ok(matches(tree, line));
     }
+    has_match_in_long(alloc, tree, line, watch)
+}
+
+/// Whether the line, which can have any length, contains a match of the tree, by a simulation that is made for it.
+fn has_match_in_long<W: Watch>(
+    alloc: Global,
+    tree: &Ere,
+    line: &[u8],
+    watch: &mut W,
+) -> Result<bool, Unanswered>
+    requires { IsWithinLimits (form tree.now) }
+    ensures found { IfOk result (λ found. IsTrue found ↔ ContainsMatch (form tree.now) line.now) }
+    ensures called_off { IfErr result (IsCalledOffOnlyIf (W.has_said_no watch.new)) }
+{
     let mut simulation = Simulation::new(alloc, tree)?;
-    Ok(simulation.matches(line))
+    let found = simulation.matches(line, watch)?;
+    Ok(found)
 }

@@ -312,3 +312,15 @@ pub found_at_all : (line : List ℕ) (node : Shape) (wanted : WordRange) (cells 
     → IsTrue (is_some found) ↔ HasWanted line node wanted
 found_at_all line node wanted cells None none = (λ is. absurd (false≢true is), λ has. absurd (none_at_all line node wanted none has))
 found_at_all line node wanted cells (Some end) next = (λ is. (next.0.ends.0, (end, next.0.ends.1)), λ has. refl)
+
+pub found_next : (line : List ℕ) (node : Shape) (wanted : WordRange) (from end : ℕ) (cells : List ℕ) (found : Option ℕ) → found ≡ Some end
+    → MatchOption found (NoneEndsAfter line node wanted from) (λ e. IsNextEnd line node wanted from e × IsReadTo line e node wanted cells)
+    → IsNextEnd line node wanted from end × IsReadTo line end node wanted cells
+found_next line node wanted from end cells found is next =
+    subst (λ o. MatchOption o (NoneEndsAfter line node wanted from) (λ e. IsNextEnd line node wanted from e × IsReadTo line e node wanted cells)) is next
+
+pub found_none : (line : List ℕ) (node : Shape) (wanted : WordRange) (from : ℕ) (cells : List ℕ) (found : Option ℕ) → found ≡ None
+    → MatchOption found (NoneEndsAfter line node wanted from) (λ e. IsNextEnd line node wanted from e × IsReadTo line e node wanted cells)
+    → NoneEndsAfter line node wanted from
+found_none line node wanted from cells found is next =
+    subst (λ o. MatchOption o (NoneEndsAfter line node wanted from) (λ e. IsNextEnd line node wanted from e × IsReadTo line e node wanted cells)) is next

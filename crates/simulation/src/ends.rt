@@ -1,6 +1,6 @@
 //! Where words of a node end in a line.
 
-ghost use Rattle.std.specs.Prelude.{◌≡◌, ℕ, ◌<◌, ◌≤◌, ◌↔◌, ◌&&◌, not, MatchOption, IsTrue, length};
+ghost use Rattle.std.specs.Prelude.{◌≡◌, ℕ, ◌<◌, ◌≤◌, ◌↔◌, ◌&&◌, not, MatchOption, IfOk, IfErr, IsTrue, length};
 ghost use Rattle.spans.specs.Sides.{is_word_after, is_word_before};
 ghost use Rattle.simulation.specs.Nodes.{shape};
 ghost use Rattle.simulation.specs.Pending.{at};
@@ -9,6 +9,7 @@ ghost use Rattle.simulation.specs.Private.Reading.{AreClear, Ends, HasRoom, HasW
 use crate::cells::word_if;
 use crate::node::Node;
 use crate::step::step;
+use crate::watch::{CalledOff, Watch, look};
 use ere::is_word_byte;
 
 /// Which words of a node are looked for.
@@ -23,67 +24,81 @@ pub(crate) struct WordRange {
 }
 
 /// Whether there is such a word in the line.
-pub(crate) fn has_word(
+pub(crate) fn has_word<W: Watch>(
     node: &Node,
     line: &[u8],
     wanted: WordRange,
     entered: &mut [u64],
     cells: &mut [u64],
-) -> bool
+    watch: &mut W,
+) -> Result<bool, CalledOff>
     requires { HasRoom (shape node.now) entered.old cells.old }
-    ensures { IsTrue result ↔ HasWanted line.now (shape node.now) wanted }
+    ensures found { IfOk result (λ found. IsTrue found ↔ HasWanted line.now (shape node.now) wanted) }
+    ensures called_off { IfErr result (λ _. W.has_said_no watch.new) }
 {
     clear(cells);
-    next_end(node, line, wanted, wanted.first, entered, cells).is_some()
+    let end = next_end(node, line, wanted, wanted.first, entered, cells, watch)?;
+    Ok(end.is_some())
 }
 
 /// The greatest position at which such a word ends, or `None` if there is none.
-pub(crate) fn last_end(
+pub(crate) fn last_end<W: Watch>(
     node: &Node,
     line: &[u8],
     wanted: WordRange,
     entered: &mut [u64],
     cells: &mut [u64],
-) -> Option<usize>
+    watch: &mut W,
+) -> Result<Option<usize>, CalledOff>
     requires { HasRoom (shape node.now) entered.old cells.old }
-    ensures { MatchOption result (HasWanted line.now (shape node.now) wanted → ⊥) (IsLastEnd line.now (shape node.now) wanted) }
+    ensures found { IfOk result
+        (λ found. MatchOption found (HasWanted line.now (shape node.now) wanted → ⊥) (IsLastEnd line.now (shape node.now) wanted)) }
+    ensures called_off { IfErr result (λ _. W.has_said_no watch.new) }
 {
     clear(cells);
-    let mut last = next_end(node, line, wanted, wanted.first, entered, cells)?;
-    while let Some(end) = next_end(node, line, wanted, last, entered, cells) {
+    let Some(first) = next_end(node, line, wanted, wanted.first, entered, cells, watch)? else {
+        return Ok(None);
+    };
+    let mut last = first;
+    loop {
+        let Some(end) = next_end(node, line, wanted, last, entered, cells, watch)? else {
+            return Ok(Some(last));
+        };
         last = end;
     }
-    Some(last)
 }
 
 /// Reads on from a position, up to the next one at which such a word ends. `None` if none ends after that position.
 ///
-/// The cells are those of the position, and then those of the end.
-fn next_end(
+/// The cells are those of the position, and then those of the end. After an `Err` they are of no use.
+fn next_end<W: Watch>(
     node: &Node,
     line: &[u8],
     wanted: WordRange,
     from: usize,
     entered: &mut [u64],
     cells: &mut [u64],
-) -> Option<usize>
+    watch: &mut W,
+) -> Result<Option<usize>, CalledOff>
     requires room { HasRoom (shape node.now) entered.old cells.old }
     requires read { IsReadTo line.now from (shape node.now) wanted cells.old }
-    ensures { MatchOption result (NoneEndsAfter line.now (shape node.now) wanted from)
-        (λ end. IsNextEnd line.now (shape node.now) wanted from end × IsReadTo line.now end (shape node.now) wanted cells.new) }
+    ensures found { IfOk result (λ found. MatchOption found (NoneEndsAfter line.now (shape node.now) wanted from)
+        (λ end. IsNextEnd line.now (shape node.now) wanted from end × IsReadTo line.now end (shape node.now) wanted cells.new)) }
+    ensures called_off { IfErr result (λ _. W.has_said_no watch.new) }
 {
     for here in from..line.len() {
         // Nothing begins any more, and nothing is pending.
         if here >= wanted.past && are_clear(cells) {
-            return None;
+            return Ok(None);
         }
+        look(here, watch)?;
         begin(is_start(line, wanted, here), entered);
         step(node, 1, line, here, entered, cells);
         if is_end(line, wanted, here + 1, cells) {
-            return Some(here + 1);
+            return Ok(Some(here + 1));
         }
     }
-    None
+    Ok(None)
 }
 
 /// Whether a word that is looked for can begin at the position, which is no less than the least.

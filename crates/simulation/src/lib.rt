@@ -12,5 +12,7 @@ mod sequence;
 mod simulation;
 mod step;
 mod turns;
+mod watch;
 
 pub use simulation::Simulation;
+pub use watch::{CalledOff, Watch};

@@ -8,6 +8,7 @@ use crate::ends::{WordRange, has_word, last_end};
 use crate::gaps::first_gap;
 use crate::node::{Gaps, Node, begins_at_start, is_gap};
 use crate::pack::pack;
+use crate::watch::{CalledOff, Watch};
 use ere::Ere;
 use std::alloc::{AllocError, Global};
 
@@ -30,7 +31,7 @@ pub struct Simulation {
 }
 
 impl Simulation {
-    ghost use Rattle.std.specs.Prelude.{◌↔◌, IsTrue, IfOk, MatchBool, MatchOption};
+    ghost use Rattle.std.specs.Prelude.{◌↔◌, IsTrue, IfOk, IfErr, MatchBool, MatchOption};
     ghost use Rattle.ere.specs.Language.{ContainsMatch};
     ghost use Rattle.ere.specs.Limits.{IsWithinLimits};
     ghost use Rattle.ere.specs.Tree.{Tree, form};
@@ -58,16 +59,27 @@ impl Simulation {
     /// Whether some part of the line is a match of the tree. Nothing is allocated.
     ///
     /// The line can have any length. As far as is measured, the time for each of its bytes depends on the tree alone.
-    pub fn matches(&mut self, line: &[u8]) -> bool
+    ///
+    /// `watch` is asked each 65,536 bytes: `CalledOff` means that it said that the answer is not wanted.
+    pub fn matches<W: Watch>(&mut self, line: &[u8], watch: &mut W) -> Result<bool, CalledOff>
         requires { (tree : Tree) × IsSimulationOf tree self.old }
         ensures same { (tree : Tree) → IsSimulationOf tree self.old → IsSimulationOf tree self.new }
-        ensures found { (tree : Tree) → IsSimulationOf tree self.old → IsTrue result ↔ ContainsMatch tree line.now }
+        ensures found { IfOk result (λ found. (tree : Tree) → IsSimulationOf tree self.old → IsTrue found ↔ ContainsMatch tree line.now) }
+        ensures called_off { IfErr result (λ _. W.has_said_no watch.new) }
     {
         if has_gap(self.gaps, line) {
-            return true;
+            return Ok(true);
         }
         let all = wanted(self.at_start, 0, line.len(), false);
-        has_word(&self.node, line, all, &mut self.entered, &mut self.cells)
+        let found = has_word(
+            &self.node,
+            line,
+            all,
+            &mut self.entered,
+            &mut self.cells,
+            watch,
+        )?;
+        Ok(found)
     }
 
     /// Whether a match that is not empty begins at some position from `first` up to but not including `past`. With
@@ -75,15 +87,33 @@ impl Simulation {
     ///
     /// This is one pass over the line, from `first` on. It stops at the first end of such a match, and where nothing is left
     /// that could become one. The line can have any length. As far as is measured, the time for each of its bytes depends
-    /// on the tree alone. Nothing is allocated, and there are no errors.
-    pub fn has_span(&mut self, line: &[u8], first: usize, past: usize, whole_words: bool) -> bool
+    /// on the tree alone. Nothing is allocated.
+    ///
+    /// `watch` is asked each 65,536 bytes: `CalledOff` means that it said that the answer is not wanted.
+    pub fn has_span<W: Watch>(
+        &mut self,
+        line: &[u8],
+        first: usize,
+        past: usize,
+        whole_words: bool,
+        watch: &mut W,
+    ) -> Result<bool, CalledOff>
         requires { (tree : Tree) × IsSimulationOf tree self.old }
         ensures same { (tree : Tree) → IsSimulationOf tree self.old → IsSimulationOf tree self.new }
-        ensures found { (tree : Tree) → IsSimulationOf tree self.old
-            → MatchBool result (SomeSpanBegins line.now tree whole_words first past) (NoSpanBegins line.now tree whole_words first past) }
+        ensures found { IfOk result (λ found. (tree : Tree) → IsSimulationOf tree self.old
+            → MatchBool found (SomeSpanBegins line.now tree whole_words first past) (NoSpanBegins line.now tree whole_words first past)) }
+        ensures called_off { IfErr result (λ _. W.has_said_no watch.new) }
     {
         let block = wanted(self.at_start, first, past, whole_words);
-        has_word(&self.node, line, block, &mut self.entered, &mut self.cells)
+        let found = has_word(
+            &self.node,
+            line,
+            block,
+            &mut self.entered,
+            &mut self.cells,
+            watch,
+        )?;
+        Ok(found)
     }
 
     /// The end of the longest match that begins at the position and is not empty, or `None` if there is none, as from the
@@ -91,19 +121,35 @@ impl Simulation {
     /// count.
     ///
     /// This is one pass over the line, from `start` on. It stops where no match is pending any more. The line can have any
-    /// length. As far as is measured, the time for each of its bytes depends on the tree alone. Nothing is allocated, and
-    /// there are no errors.
-    pub fn longest_end(&mut self, line: &[u8], start: usize, whole_words: bool) -> Option<usize>
+    /// length. As far as is measured, the time for each of its bytes depends on the tree alone. Nothing is allocated.
+    ///
+    /// `watch` is asked each 65,536 bytes: `CalledOff` means that it said that the answer is not wanted.
+    pub fn longest_end<W: Watch>(
+        &mut self,
+        line: &[u8],
+        start: usize,
+        whole_words: bool,
+        watch: &mut W,
+    ) -> Result<Option<usize>, CalledOff>
         requires { (tree : Tree) × IsSimulationOf tree self.old }
         ensures same { (tree : Tree) → IsSimulationOf tree self.old → IsSimulationOf tree self.new }
-        ensures found { (tree : Tree) → IsSimulationOf tree self.old
-            → MatchOption result (HasNoSpanAt line.now tree whole_words start) (IsLongestEnd line.now tree whole_words start) }
+        ensures found { IfOk result (λ found. (tree : Tree) → IsSimulationOf tree self.old
+            → MatchOption found (HasNoSpanAt line.now tree whole_words start) (IsLongestEnd line.now tree whole_words start)) }
+        ensures called_off { IfErr result (λ _. W.has_said_no watch.new) }
     {
         if start >= line.len() {
-            return None;
+            return Ok(None);
         }
         let only = wanted(self.at_start, start, start + 1, whole_words);
-        last_end(&self.node, line, only, &mut self.entered, &mut self.cells)
+        let found = last_end(
+            &self.node,
+            line,
+            only,
+            &mut self.entered,
+            &mut self.cells,
+            watch,
+        )?;
+        Ok(found)
     }
 
     /// The least position of an empty match, from 0 to the line's length, or `None` if there is none. With `whole_words` only

@@ -12,7 +12,7 @@ use Rattle.search.proofs.UpToLemmas.{first_all, cut_here, reached, selection_of_
 use Rattle.search.proofs.matching.scan_lines.Goals as goal
 
 pub loop-end-preserved : goal.loop-end-preserved
-loop-end-preserved c =
+loop-end-preserved g c =
     let at = c.loop-end in
     let text = at.rest.now in
     let end = c.in-Some.end in
@@ -33,7 +33,7 @@ loop-end-preserved c =
     }
 
 pub returns-then-is_empty-clause-places : goal.returns-then-is_empty-clause-places
-returns-then-is_empty-clause-places c = λ body name there.
+returns-then-is_empty-clause-places g c = λ body name there.
     let at = c.loop-end in
     let empty : length at.rest.now ≡ 0 = grind (arith, nat_tests) in
     first_all c.args.most (test_of c.args.test.now) c.args.document name body (numbered name c.args.from (lines_of c.args.text.now))
@@ -43,7 +43,7 @@ returns-then-is_empty-clause-places c = λ body name there.
     (numbered-empty name at.line at.rest.now empty) (at.invariant.so_far body name there))
 
 pub returns-clause-places : goal.returns-clause-places
-returns-clause-places c =
+returns-clause-places g c =
     let at = c.loop-end in
     let text = at.rest.now in
     let some : 0 < length text = grind (arith, nat_tests) in
@@ -57,7 +57,7 @@ returns-clause-places c =
     (sym (numbered-last name at.line text some c.in_default.ensures)) (added name body (at.invariant.there body there))))) c.scan_line-2.ensures.places
 
 pub returns-then-is_reached-clause-places : goal.returns-then-is_reached-clause-places
-returns-then-is_reached-clause-places c = λ body name there.
+returns-then-is_reached-clause-places g c = λ body name there.
     let at = c.loop-end in
     let test = test_of c.args.test.now in
     let text = at.rest.now in

@@ -9,7 +9,7 @@ use Rattle.search.proofs.PlaceLemmas.{AddsSoFar}
 use Rattle.search.proofs.matching.scan_lines.Given as goal
 
 abbrev pub invariant-loop-end : goal.invariant-loop-end
-invariant-loop-end l = record {
+invariant-loop-end g l = record {
   so_far : (body name : List ℕ) → HasTextAt body l.offset l.text
       → AddsSoFar (test_of l.test) l.document name body (numbered name l.line (lines_of l.rest)) (numbered name l.from (lines_of l.text))
       l.initial.places.items l.places.items;
@@ -20,4 +20,4 @@ invariant-loop-end l = record {
 }
 
 abbrev pub decreases-loop-end : goal.decreases-loop-end
-decreases-loop-end l = length l.rest
+decreases-loop-end g l = length l.rest

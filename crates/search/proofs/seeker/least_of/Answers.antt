@@ -14,8 +14,8 @@ loop-high-init g c = record {
 pub has_span-requires : goal.has_span-requires
 has_span-requires g c = (c.requires.simulation.0, c.loop-high.invariant.same c.requires.simulation.0 c.requires.simulation.1)
 
-pub loop-high-preserved-then-has_span : goal.loop-high-preserved-then-has_span
-loop-high-preserved-then-has_span g c =
+pub loop-high-preserved-then-has : goal.loop-high-preserved-then-has
+loop-high-preserved-then-has g c =
     let at = c.loop-high in
     let middle = at.low + (at.high - at.low) / 2 in
     record {
@@ -23,9 +23,9 @@ loop-high-preserved-then-has_span g c =
       ordered = omega (arith, at.invariant.ordered);
       halved = λ tree is some.
           halved_low c.args.line.now tree c.args.whole_words c.args.from c.args.past at.low middle at.high (at.invariant.halved tree is some) (omega arith)
-          (case-true c.has_span.result (SomeSpanBegins c.args.line.now tree c.args.whole_words at.low middle)
-          (NoSpanBegins c.args.line.now tree c.args.whole_words at.low middle) c.if-has_span.true
-          (c.has_span.ensures.found tree (at.invariant.same tree is)));
+          (case-true c.in_ok-has.has (SomeSpanBegins c.args.line.now tree c.args.whole_words at.low middle)
+          (NoSpanBegins c.args.line.now tree c.args.whole_words at.low middle) c.if-has.true
+          (c.in_ok-has.ensures.found tree (at.invariant.same tree is)));
     }
 
 pub loop-high-preserved : goal.loop-high-preserved
@@ -37,9 +37,9 @@ loop-high-preserved g c =
       ordered = omega (arith, at.invariant.ordered);
       halved = λ tree is some.
           halved_high c.args.line.now tree c.args.whole_words c.args.from c.args.past at.low middle at.high (at.invariant.halved tree is some) (omega arith)
-          (case-false c.has_span.result (SomeSpanBegins c.args.line.now tree c.args.whole_words at.low middle)
-          (NoSpanBegins c.args.line.now tree c.args.whole_words at.low middle) c.if-has_span.false
-          (c.has_span.ensures.found tree (at.invariant.same tree is)));
+          (case-false c.in_ok-has.has (SomeSpanBegins c.args.line.now tree c.args.whole_words at.low middle)
+          (NoSpanBegins c.args.line.now tree c.args.whole_words at.low middle) c.if-has.false
+          (c.in_ok-has.ensures.found tree (at.invariant.same tree is)));
     }
 
 pub returns-clause-found : goal.returns-clause-found

@@ -13,16 +13,16 @@ has_span-requires g c = (c.requires.0, c.loop-first.invariant.same c.requires.0 
 pub least_of-requires-clause-simulation : goal.least_of-requires-clause-simulation
 least_of-requires-clause-simulation g c = (c.requires.0, c.has_span.ensures.same c.requires.0 (c.loop-first.invariant.same c.requires.0 c.requires.1))
 
-pub returns-then-has_span-clause-found : goal.returns-then-has_span-clause-found
-returns-then-has_span-clause-found g c =
+pub returns-then-has-clause-found : goal.returns-then-has-clause-found
+returns-then-has-clause-found g c =
     let at = c.loop-first in
     λ tree is.
     let now = at.invariant.same tree is in
     least_in_block c.args.line.now tree c.args.whole_words c.args.from c.args.past at.first c.min-end.result c.in_ok-start.start
     at.invariant.after (omega arith) (at.invariant.none tree is)
     (c.in_ok-start.ensures.found tree (c.has_span.ensures.same tree now)
-    (case-true c.has_span.result (SomeSpanBegins c.args.line.now tree c.args.whole_words at.first c.min-end.result)
-    (NoSpanBegins c.args.line.now tree c.args.whole_words at.first c.min-end.result) c.if-has_span.true (c.has_span.ensures.found tree now)))
+    (case-true c.in_ok-has.has (SomeSpanBegins c.args.line.now tree c.args.whole_words at.first c.min-end.result)
+    (NoSpanBegins c.args.line.now tree c.args.whole_words at.first c.min-end.result) c.if-has.true (c.in_ok-has.ensures.found tree now)))
 
 pub loop-first-preserved : goal.loop-first-preserved
 loop-first-preserved g c =
@@ -32,9 +32,9 @@ loop-first-preserved g c =
       after = omega (arith, at.invariant.after);
       none = λ tree is.
           begin_behind c.args.line.now tree c.args.whole_words c.args.from at.first c.min-end.result (at.invariant.none tree is)
-          (case-false c.has_span.result (SomeSpanBegins c.args.line.now tree c.args.whole_words at.first c.min-end.result)
-          (NoSpanBegins c.args.line.now tree c.args.whole_words at.first c.min-end.result) c.if-has_span.false
-          (c.has_span.ensures.found tree (at.invariant.same tree is)));
+          (case-false c.in_ok-has.has (SomeSpanBegins c.args.line.now tree c.args.whole_words at.first c.min-end.result)
+          (NoSpanBegins c.args.line.now tree c.args.whole_words at.first c.min-end.result) c.if-has.false
+          (c.in_ok-has.ensures.found tree (at.invariant.same tree is)));
       wide = omega (arith, at.invariant.wide);
     }
 

@@ -1,6 +1,7 @@
 use Rattle.std.proofs.Common.{arith}
 use Rattle.search.specs.Private.Seekers.{IsTried}
-use Rattle.search.proofs.SeekerLemmas.{begin_after, begin_at_start, first_of_start, none_found}
+use Rattle.spans.specs.Passes.{HasNoSpanAt, IsLongestEnd}
+use Rattle.search.proofs.SeekerLemmas.{begin_after, begin_at_start, first_of_start, none_found, none_of, some_of}
 use Rattle.search.proofs.seeker.try_each.Goals as goal
 
 pub loop-tries-init : goal.loop-tries-init
@@ -36,17 +37,18 @@ returns-then-reaches_end-clause-tried g c =
     (begin_at_start c.args.line.now tree c.args.whole_words c.args.from at.next c.in-Some.found.start c.in-Some.found.end before.1 next)
     (c.reaches_end.ensures c.if-reaches_end.true tree next.is_match)
 
-pub returns-in-Some-longest_end-clause-tried : goal.returns-in-Some-longest_end-clause-tried
+pub returns-in-Some-longest-clause-tried : goal.returns-in-Some-longest-clause-tried
 unfolding IsTried
-returns-in-Some-longest_end-clause-tried g c =
+returns-in-Some-longest-clause-tried g c =
     let at = c.loop-tries in
     λ tree finds is.
     let before = at.invariant.none tree finds is in
     let next = c.in-Some.ensures.found tree (at.invariant.finder tree finds) in
-    first_of_start c.args.line.now tree c.args.whole_words c.args.from c.in-Some.found.start c.in-Some-longest_end.end
+    first_of_start c.args.line.now tree c.args.whole_words c.args.from c.in-Some.found.start c.in-Some-longest.end
     (omega (arith, before.0, next.after))
     (begin_at_start c.args.line.now tree c.args.whole_words c.args.from at.next c.in-Some.found.start c.in-Some.found.end before.1 next)
-    (c.in-Some-longest_end.ensures.found tree (at.invariant.simulation tree is))
+    (some_of (HasNoSpanAt c.args.line.now tree c.args.whole_words c.in-Some.found.start) (IsLongestEnd c.args.line.now tree c.args.whole_words c.in-Some.found.start)
+    c.in_ok-longest.longest c.in-Some-longest.end c.in-Some-longest.is (c.in_ok-longest.ensures.found tree (at.invariant.simulation tree is)))
 
 pub loop-tries-preserved : goal.loop-tries-preserved
 loop-tries-preserved g c =
@@ -61,7 +63,9 @@ loop-tries-preserved g c =
             omega (arith, before.0, next.after),
             begin_after c.args.line.now tree c.args.whole_words c.args.from c.in-Some.found.start
                 (begin_at_start c.args.line.now tree c.args.whole_words c.args.from at.next c.in-Some.found.start c.in-Some.found.end before.1 next)
-                (c.in_default-longest_end.ensures.found tree (at.invariant.simulation tree is)),
+                (none_of (HasNoSpanAt c.args.line.now tree c.args.whole_words c.in-Some.found.start)
+                (IsLongestEnd c.args.line.now tree c.args.whole_words c.in-Some.found.start) c.in_ok-longest.longest c.in_default-longest.is
+                (c.in_ok-longest.ensures.found tree (at.invariant.simulation tree is))),
           ));
     }
 

@@ -4,10 +4,10 @@ use Rattle.simulation.specs.Private.Reading.{Ends, IsReadTo}
 use Rattle.simulation.proofs.ends.last_end.Given as goal
 
 abbrev pub invariant-loop-end : goal.invariant-loop-end
-invariant-loop-end l = record {
+invariant-loop-end g l = record {
   read : IsReadTo l.line l.last (shape l.node) l.wanted l.cells;
   ends : Ends l.line (shape l.node) l.wanted l.last;
 }
 
 abbrev pub decreases-loop-end : goal.decreases-loop-end
-decreases-loop-end l = length l.line - l.last
+decreases-loop-end g l = length l.line - l.last

@@ -8,6 +8,10 @@ pub returns-in-None-clause-tried : goal.returns-in-None-clause-tried
 unfolding IsTried
 returns-in-None-clause-tried g c = λ tree seeks. (omega arith, λ start end s. s.begins)
 
+pub returns-then-line-gt-MOST_BY_ENGINE-clause-tried : goal.returns-then-line-gt-MOST_BY_ENGINE-clause-tried
+unfolding IsTried
+returns-then-line-gt-MOST_BY_ENGINE-clause-tried g c = λ tree seeks. (omega arith, λ start end s. s.begins)
+
 pub try_each-requires-clause-simulation : goal.try_each-requires-clause-simulation
 try_each-requires-clause-simulation g c = (c.requires.seeks.0, c.requires.seeks.1.simulation)
 

@@ -6,7 +6,7 @@ use Rattle.simulation.proofs.Lines as lines
 use Rattle.simulation.proofs.simulation.Simulation.matches.Goals as goal
 
 pub returns-then-has_gap-clause-found : goal.returns-then-has_gap-clause-found
-returns-then-has_gap-clause-found c = λ tree is. (
+returns-then-has_gap-clause-found g c = λ tree is. (
   λ true_is.
       lines.found_after_gap c.args.line.now tree (shape c.args.self.now.node) c.args.self.now.gaps is.node.packed
       (sym c.has_gap.ensures ∙ c.if-has_gap.true),
@@ -14,8 +14,8 @@ returns-then-has_gap-clause-found c = λ tree is. (
 )
 
 pub returns-clause-found : goal.returns-clause-found
-returns-clause-found c = λ tree is.
-    lines.found_by_word c.args.line.now tree (shape c.args.self.now.node) c.args.self.now.gaps c.has_gap.result c.has_word.result is.node.packed
+returns-clause-found g c = λ tree is.
+    lines.found_by_word c.args.line.now tree (shape c.args.self.now.node) c.args.self.now.gaps c.has_gap.result c.in_ok-found.found is.node.packed
     c.has_gap.ensures c.if-has_gap.false
-    (anchors.none_lost_at_all c.args.line.now (shape c.args.self.now.node) c.args.self.now.at_start c.has_word.result false 0 (length c.args.line.now) _
-    is.at_start refl (subst (λ w. IsTrue c.has_word.result ↔ HasWanted c.args.line.now (shape c.args.self.now.node) w) c.wanted-all.ensures c.has_word.ensures))
+    (anchors.none_lost_at_all c.args.line.now (shape c.args.self.now.node) c.args.self.now.at_start c.in_ok-found.found false 0 (length c.args.line.now) _
+    is.at_start refl (subst (λ w. IsTrue c.in_ok-found.found ↔ HasWanted c.args.line.now (shape c.args.self.now.node) w) c.wanted-all.ensures c.in_ok-found.ensures.found))
