@@ -260,6 +260,13 @@ def new_documents(n):
     return after(b"", documents(n) + b"publish\n")
 
 
+def new_documents_that_are_filled_together(n):
+    """Together they have over a MiB, so they are put into the sets of their trigrams at one go, and each number comes to the end of
+    long lists."""
+    text = b"".join(b"%d\n" % number for number in range(1_000, 1_400))
+    return after(b"", b"".join(put(b"f%d" % number, text) for number in range(n)) + b"publish\n")
+
+
 def documents_in_both_copies(n):
     return after(b"", documents(n) + b"publish\n" * 3 + b"search x\n")
 
@@ -572,6 +579,7 @@ Row = collections.namedtuple("Row", "growth n ways work memory", defaults=(BOTH,
 
 GROWTHS = [
     Row(new_documents, 500),
+    Row(new_documents_that_are_filled_together, 600),
     Row(documents_in_both_copies, 500, (SESSION,)),
     Row(replacements_of_a_document, 1000),
     Row(replacements_that_are_published, 500),
@@ -706,12 +714,11 @@ def text_of_few_trigrams(lines):
 
 
 def bodies_of_a_publish_are_analysed_by_all_threads(runs):
-    """Of bodies that are published together, each of three threads analyses a third, also where they are behind many small ones. Of many
-    bytes the first thread analyses a third of the first piece only, since it fills the copy meanwhile. One body, and many small ones, are
-    analysed without a thread."""
+    """Of bodies that are published together, each of three threads analyses a third, also where they are behind many small ones, and then
+    puts the documents into a third of the sets. One body, and many small ones, are analysed without a thread."""
     text = text_of_few_trigrams(20_000)
     third = 1 / 4, 5 / 12, 5 / 12
-    for what, few, many, (least, most, one) in ("nine", 0, 9, third), ("nine behind forty", 40, 9, third), ("ninety", 0, 90, (0, 1 / 8, 5 / 8)):
+    for what, few, many, (least, most, one) in ("nine", 0, 9, third), ("nine behind forty", 40, 9, third), ("ninety", 0, 90, third):
         puts = b"".join(put(b"f%d" % number, b"x" if number < few else text) for number in range(few + many))
         work = runs.instructions(SCRIPT, puts + b"publish\n") - runs.instructions(SCRIPT, puts)
         pending, shown = (runs.instructions_of_all_threads(SCRIPT_BESIDE, puts + end) for end in (b"", b"publish\n"))
@@ -1166,6 +1173,13 @@ def bodies_are_gone_through_fast(runs):
     yield "bytes in use at once for a MB with few trigrams", many - few, 1_000_000, 2_000_000
 
 
+def large_bodies_are_analysed_in_little_memory(runs):
+    """A body of 64 MiB that has nearly all trigrams, beside itself, takes at most three times its length until it is published."""
+    body = random.Random(1).randbytes(1 << 26).translate(bytes([1, *range(1, 256)]))
+    most = runs.memory(SESSION_OF_LONG_LINES, put(b"a", body) + b"publish\n").most
+    yield "bytes in use at once for 64 MiB of random bytes", most, len(body), 4 * len(body)
+
+
 def input_is_read_in_large_pieces(runs):
     script = put(b"a", b"some text\n" * 100_000) + b"# a comment\n" * 10_000
     for way in BOTH:
@@ -1245,6 +1259,7 @@ CHECKS = [
     small_documents_are_searched_as_a_large_one,
     memory_of_what_is_short,
     bodies_are_gone_through_fast,
+    large_bodies_are_analysed_in_little_memory,
     input_is_read_in_large_pieces,
 ]
 

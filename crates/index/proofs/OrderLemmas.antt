@@ -280,13 +280,13 @@ none_in_order numbers text ds names none = subst (λ xs. IsInNameOrder xs []) (s
 
 -- ---- candidates
 
-pub candidates_are : (ds : List Document) → Numbered ds → (sets : Sets) (formula : Formula) → AreSetsOf ds sets
+pub candidates_are : (ds : List Document) → Numbered ds → (sets : Sets) (formula : Formula) → AreSetsOf ds sets → None ≡ sets.waiting
     → filter (λ n. is_met formula (trigrams_with sets.postings n)) sets.live.members ≡ map (λ d. d.number) (filter (meets formula) ds)
-candidates_are ds numbered sets formula kept =
+candidates_are ds numbered sets formula kept all =
     ap (λ xs. filter (λ n. is_met formula (trigrams_with sets.postings n)) xs) kept.live
     ∙ go ds (λ d there.
     ap (is_met formula)
-    (fun_ext (λ t. kept.postings t d.number ∙ ap (λ found. trigrams_shown found t) (document_at-Contains ds numbered d there))))
+    (fun_ext (λ t. kept.postings t d.number (rw (← all) refl) ∙ ap (λ found. trigrams_shown found t) (document_at-Contains ds numbered d there))))
   where
     go : (ds : List Document) → ((d : Document) → Contains ds d → is_met formula (trigrams_with sets.postings d.number) ≡ meets formula d)
         → filter (λ n. is_met formula (trigrams_with sets.postings n)) (map (λ d. d.number) ds)

@@ -1,19 +1,24 @@
 -- Documents whose numbers rise, and their sets.
-use Rattle.std.proofs.Common.{◌≡◌, ◌≢◌, ℕ, suc, ◌+◌, ◌<◌, ◌≤◌, ◌==◌, ◌||◌, ◌&&◌, Bool, true, false, not, cond, List, [], ◌∷◌, ◌++◌, map}
-use Rattle.std.proofs.Common.{length, get_or, Option, Some, None, Contains, refl, sym, ◌∙◌, ap, subst, arith}
-use Rattle.std.specs.Prelude.{All, IsSome, filter, option_map}
+use Rattle.std.proofs.Common.{◌≡◌, ◌≢◌, ℕ, suc, ◌+◌, ◌<◌, ◌≤◌, ◌==◌, ◌||◌, ◌&&◌, Bool, true, false, not, cond, nat_lt, List, [], ◌∷◌, ◌++◌, map}
+use Rattle.std.proofs.Common.{◌⊎◌, inl, inr, take, add-one, Result, Ok, Err, OnOk, length, get_or, Option, Some, None, Contains, refl, sym, ◌∙◌, ap, subst, arith}
+use Rattle.std.specs.Prelude.{All, IsSome, IsOk, filter, option_map}
 use Rattle.std.specs.List.Sorted.{IsStrictlyIncreasing}
+use Rattle.std.proofs.lemmas.Bool.{false≢true}
 use Rattle.std.proofs.lemmas.Bool.Decides.{nat_tests}
 use Rattle.std.proofs.lemmas.List.{length-map, get_or-map, get_or_default, map-append}
 use Rattle.std.proofs.lemmas.List.Elements.{All-head, All-tail, All-nil, All-cons, All-append, All-contains_itself, All-map}
 use Rattle.std.proofs.lemmas.List.Kept.{AllPairs-from_increasing, IsStrictlyIncreasing-filter}
 use Rattle.std.proofs.lemmas.Option.{some_pair_parts}
+use Rattle.std.proofs.lemmas.List.Folds.{list_any-append}
+use Rattle.std.proofs.Math.Seq.{take-suc}
 use Rattle.std.proofs.lemmas.List.Sums.{sum-map, sum_by-cons}
 use Rattle.std.proofs.Math.Bool.{or-false, and-false, and-true}
 use Rattle.std.specs.Cmp.{both_ways}
+use Rattle.lines.specs.Lines.{lines_of}
 use Rattle.query.specs.Trigrams.{ListsTrigrams, trigrams_of_body}
 use Rattle.posting.specs.ListValue.{has, without}
-use Rattle.posting.specs.Postings.{holds, IsPrepared, AllDiffer}
+use Rattle.posting.specs.declared.filling.Entry.{Entry}
+use Rattle.posting.specs.Postings.{holds, is_listed, IsPrepared, IsAbsent, AllDiffer}
 use Rattle.posting.proofs.Members.{has_at, All-has}
 use Rattle.posting.proofs.SetLemmas.{has-filter}
 use Rattle.index.specs.declared.slots.Slot.{Slot}
@@ -24,11 +29,11 @@ use Rattle.index.specs.declared.store.Store.{Store}
 use Rattle.index.specs.Documents.{Document, document, document_at}
 use Rattle.index.specs.State.{body_bytes}
 use Rattle.index.specs.Private.Slots.{documents_of_slot, documents_in, numbers_in, RiseTo, without_number, with_body_at}
-use Rattle.index.specs.Private.Sets.{IsNew, IsChange, trigrams_shown, trigrams_at, AreSetsOf}
+use Rattle.index.specs.Private.Sets.{IsNew, IsChange, trigrams_shown, trigrams_at, is_whole, is_waiting, AreSetsOf}
 use Rattle.index.specs.Private.Store.{stored, IsReadyFor}
 use Rattle.index.proofs.DocumentLemmas.{numbers-replaced}
 use Rattle.index.proofs.RisingLemmas.{below_later}
-use Rattle.index.proofs.SlotLemmas.{Rising, rising, with_body_at-absent}
+use Rattle.index.proofs.SlotLemmas.{Rising, rising, with_body_at-absent, documents_in-push}
 
 -- ---- each number is below those after it
 
@@ -173,46 +178,65 @@ numbers-kept gone (d ∷ ds) = go (not (d.number == gone)) (numbers-kept gone ds
 pub all_differ : (xs : List ℕ) → IsStrictlyIncreasing xs → AllDiffer xs
 all_differ xs rise = λ i j d before inside. (let less = AllPairs-from_increasing xs rise i j d before inside in λ e. omega arith)
 
+or_rises : (a b x : Bool) → (a ≡ true → b ≡ true) → (a || x) ≡ true → (b || x) ≡ true
+or_rises a true x up is = refl
+or_rises true false x up is = absurd (false≢true (up refl))
+or_rises false false x up is = is
+
+and_rises : (a b x : Bool) → (a ≡ true → b ≡ true) → (a && x) ≡ true → (b && x) ≡ true
+and_rises true b x up is = rw (up refl) is
+and_rises false b x up is = absurd (false≢true is)
+
+not_held : (a : Bool) → (a ≡ true → ⊥) → a ≡ false
+not_held true never = absurd (never refl)
+not_held false never = refl
+
+-- The sets follow the documents if each change of the sets would, from all that the documents had, make all that they have.
+followed : (ds ds' : List Document) (old new : Sets) (f : ℕ → ℕ → Bool → Bool) → AreSetsOf ds old → new.waiting ≡ old.waiting
+    → ((t n : ℕ) (a b : Bool) → (a ≡ true → b ≡ true) → f t n a ≡ true → f t n b ≡ true)
+    → ((t n : ℕ) → holds new.postings t n ≡ f t n (holds old.postings t n)) → ((t n : ℕ) → f t n (trigrams_at ds n t) ≡ trigrams_at ds' n t)
+    → new.live.members ≡ map (λ d. d.number) ds' → AreSetsOf ds' new
+followed ds ds' old new f kept waiting rises sets moved live = record {
+  live = live;
+  postings = λ t n whole. sets t n ∙ ap (f t n) (kept.postings t n (rw waiting at whole)) ∙ moved t n;
+  few = λ t n held. sym (moved t n) ∙ rises t n (holds old.postings t n) (trigrams_at ds n t) (kept.few t n) (sym (sets t n) ∙ held);
+}
+
 -- the sets after a document is taken out
 pub AreSetsOf-take : (ds : List Document) (gone : ℕ) (name body trigrams : List ℕ) (old new : Sets) → AreSetsOf ds old
-    → document_at gone ds ≡ Some (name, body) → ListsTrigrams body trigrams → new.live.members ≡ without gone old.live.members
+    → document_at gone ds ≡ Some (name, body) → ListsTrigrams body trigrams → new.live.members ≡ without gone old.live.members → new.waiting ≡ old.waiting
     → ((trigram n : ℕ) → holds new.postings trigram n ≡ (holds old.postings trigram n && not (has trigrams trigram && n == gone)))
     → AreSetsOf (without_number gone ds) new
-AreSetsOf-take ds gone name body trigrams old new kept at lists live sets = record {
-  live = live ∙ (ap (without gone) kept.live ∙ sym (numbers-kept gone ds));
-  postings =
-      λ trigram number.
-      sets trigram number
-      ∙ (left_over trigram number (number == gone) refl
-      ∙ ap (λ found. trigrams_shown found trigram) (sym (document_at-kept gone number ds)));
-}
+AreSetsOf-take ds gone name body trigrams old new kept at lists live waiting sets =
+    followed ds (without_number gone ds) old new (λ trigram number b. b && not (has trigrams trigram && number == gone)) kept waiting
+    (λ trigram number a b up is. and_rises a b (not (has trigrams trigram && number == gone)) up is) sets
+    (λ trigram number.
+    left_over trigram number (number == gone) refl ∙ ap (λ found. trigrams_shown found trigram) (sym (document_at-kept gone number ds)))
+    (live ∙ (ap (without gone) kept.live ∙ sym (numbers-kept gone ds)))
   where
     left_over : (trigram number : ℕ) (t : Bool) → (number == gone) ≡ t
-        → (holds old.postings trigram number && not (has trigrams trigram && number == gone))
+        → (trigrams_at ds number trigram && not (has trigrams trigram && number == gone))
         ≡ trigrams_shown (cond (number == gone) None (document_at number ds)) trigram
     left_over trigram number true e =
         let same : number ≡ gone = grind (arith, nat_tests) in
-        let was : holds old.postings trigram number ≡ trigrams_of_body body trigram =
-        kept.postings trigram number ∙ ap (λ n. trigrams_shown (document_at n ds) trigram) same
-        ∙ ap (λ found. trigrams_shown found trigram) at in
+        let was : trigrams_at ds number trigram ≡ trigrams_of_body body trigram =
+        ap (λ n. trigrams_shown (document_at n ds) trigram) same ∙ ap (λ found. trigrams_shown found trigram) at in
         rw e (rw was (rw (listed body trigrams lists trigram) (and_same (trigrams_of_body body trigram))))
-    left_over trigram number false e = rw e (and_none (holds old.postings trigram number) (has trigrams trigram) ∙ kept.postings trigram number)
+    left_over trigram number false e = rw e (and_none (trigrams_at ds number trigram) (has trigrams trigram))
 
 -- the sets after a document is put in
 pub AreSetsOf-put : (ds : List Document) (number : ℕ) (name body trigrams : List ℕ) (old new : Sets) → AreSetsOf ds old
-    → document_at number ds ≡ None → ListsTrigrams body trigrams → new.live.members ≡ old.live.members ++ number ∷ []
+    → document_at number ds ≡ None → ListsTrigrams body trigrams → new.live.members ≡ old.live.members ++ number ∷ [] → new.waiting ≡ old.waiting
     → ((trigram n : ℕ) → holds new.postings trigram n ≡ (holds old.postings trigram n || (has trigrams trigram && number == n)))
     → AreSetsOf (ds ++ document number name body ∷ []) new
 unfolding document_at or_else
-AreSetsOf-put ds number name body trigrams old new kept fresh lists live sets = record {
-  live = live ∙ (ap (λ xs. xs ++ number ∷ []) kept.live ∙ sym (map-append (λ d. d.number) ds (document number name body ∷ [])));
-  postings =
-      λ trigram n.
-      sets trigram n
-      ∙ (ap (λ b. b || (has trigrams trigram && number == n)) (kept.postings trigram n)
-      ∙ (come_in trigram n (document_at n ds) (number == n) refl (λ e. ap (λ m. document_at m ds) (sym e) ∙ fresh)
-      ∙ ap (λ found. trigrams_shown found trigram) (sym (document_at-append n ds (document number name body ∷ [])))));
-}
+AreSetsOf-put ds number name body trigrams old new kept fresh lists live waiting sets =
+    followed ds (ds ++ document number name body ∷ []) old new (λ trigram n b. b || (has trigrams trigram && number == n)) kept waiting
+    (λ trigram n a b up is. or_rises a b (has trigrams trigram && number == n) up is) sets
+    (λ trigram n.
+    come_in trigram n (document_at n ds) (number == n) refl (λ e. ap (λ m. document_at m ds) (sym e) ∙ fresh)
+    ∙ ap (λ found. trigrams_shown found trigram) (sym (document_at-append n ds (document number name body ∷ []))))
+    (live ∙ (ap (λ xs. xs ++ number ∷ []) kept.live ∙ sym (map-append (λ d. d.number) ds (document number name body ∷ []))))
   where
     come_in : (trigram n : ℕ) (found : Option (List ℕ × List ℕ)) (t : Bool) → (number == n) ≡ t → (number ≡ n → found ≡ None)
         → (trigrams_shown found trigram || (has trigrams trigram && number == n))
@@ -225,15 +249,22 @@ AreSetsOf-put ds number name body trigrams old new kept fresh lists live sets = 
         cc
     come_in trigram n (Some d) false e new_here = rw e (rw (and-false (has trigrams trigram)) (or-false (trigrams_of_body d.1 trigram)))
 
+-- a number above all others
+pub all_below : (ds : List Document) (last number : ℕ) (sets : Sets) → AreSetsOf ds sets → All (λ d. d.number ≤ last) ds → last < number
+    → All (λ m. m < number) sets.live.members
+all_below ds last number sets kept low above =
+    subst (λ xs. All (λ m. m < number) xs) (sym kept.live)
+    (All-map (λ m. m < number) (λ d. d.number) ds (λ k d inside. (let under = low k d inside in omega arith)))
+
 -- a number above all others is new to the sets
 pub IsNew-above : (ds : List Document) (last number : ℕ) (body trigrams : List ℕ) (sets : Sets) → AreSetsOf ds sets
     → All (λ d. d.number ≤ last) ds → last < number → ListsTrigrams body trigrams → IsNew sets number trigrams
 IsNew-above ds last number body trigrams sets kept low above lists = record {
-  live =
-      subst (λ xs. All (λ m. m < number) xs) (sym kept.live)
-      (All-map (λ m. m < number) (λ d. d.number) ds (λ k d inside. (let under = low k d inside in omega arith)));
+  live = all_below ds last number sets kept low above;
   postings =
-      λ trigram there. kept.postings trigram number ∙ ap (λ found. trigrams_shown found trigram) (document_at-above number last ds low above);
+      λ trigram there.
+      not_held (holds sets.postings trigram number)
+      (λ held. false≢true (sym (ap (λ found. trigrams_shown found trigram) (document_at-above number last ds low above)) ∙ kept.few trigram number held));
   once = all_differ trigrams lists.rising;
 }
 
@@ -298,18 +329,18 @@ pub AreSetsOf-replace : (ds : List Document) (number : ℕ) (name old_body body 
     → document_at number ds ≡ Some (name, old_body)
     → ((t : ℕ) → has fresh t ≡ (trigrams_of_body body t && not (trigrams_at ds number t)))
     → ((t : ℕ) → has gone t ≡ (trigrams_at ds number t && not (trigrams_of_body body t)))
-    → new.live.members ≡ old.live.members
+    → new.live.members ≡ old.live.members → new.waiting ≡ old.waiting
     → ((trigram n : ℕ) → holds new.postings trigram n
     ≡ ((holds old.postings trigram n || (has fresh trigram && number == n)) && not (has gone trigram && n == number)))
     → AreSetsOf (map (with_body_at number body) ds) new
-AreSetsOf-replace ds number name old_body body fresh gone old new kept at fresh_is gone_is live sets = record {
-  live = live ∙ (kept.live ∙ sym (numbers-replaced (λ d. d.number == number) body ds));
-  postings =
-      λ trigram n.
-      sets trigram n
-      ∙ (moved trigram n (n == number) refl
-      ∙ ap (λ found. trigrams_shown found trigram) (sym (document_at-replaced number body ds n)));
-}
+AreSetsOf-replace ds number name old_body body fresh gone old new kept at fresh_is gone_is live waiting sets =
+    followed ds (map (with_body_at number body) ds) old new
+    (λ trigram n b. (b || (has fresh trigram && number == n)) && not (has gone trigram && n == number)) kept waiting
+    (λ trigram n a b up is.
+    and_rises (a || (has fresh trigram && number == n)) (b || (has fresh trigram && number == n)) (not (has gone trigram && n == number))
+    (or_rises a b (has fresh trigram && number == n) up) is) sets
+    (λ trigram n. moved trigram n (n == number) refl ∙ ap (λ found. trigrams_shown found trigram) (sym (document_at-replaced number body ds n)))
+    (live ∙ (kept.live ∙ sym (numbers-replaced (λ d. d.number == number) body ds)))
   where
     exchanged : (was is : Bool) → ((was || ((is && not was) && true)) && not ((was && not is) && true)) ≡ is
     exchanged true true = refl
@@ -328,18 +359,17 @@ AreSetsOf-replace ds number name old_body body fresh gone old new kept at fresh_
     same_as false false false = refl
 
     moved : (trigram n : ℕ) (t : Bool) → (n == number) ≡ t
-        → ((holds old.postings trigram n || (has fresh trigram && number == n)) && not (has gone trigram && n == number))
+        → ((trigrams_at ds n trigram || (has fresh trigram && number == n)) && not (has gone trigram && n == number))
         ≡ trigrams_shown (cond (n == number) (option_map (λ d. (d.0, body)) (document_at n ds)) (document_at n ds)) trigram
     moved trigram n true e =
         let same : n ≡ number = grind (arith, nat_tests) in
         let back : (number == n) ≡ true = grind (arith, nat_tests) in
-        let was : holds old.postings trigram n ≡ trigrams_at ds number trigram =
-        kept.postings trigram n ∙ ap (λ m. trigrams_shown (document_at m ds) trigram) same in
+        let was : trigrams_at ds n trigram ≡ trigrams_at ds number trigram = ap (λ m. trigrams_shown (document_at m ds) trigram) same in
         let there : document_at n ds ≡ Some (name, old_body) = ap (λ m. document_at m ds) same ∙ at in
         rw (e, back, was, fresh_is trigram, gone_is trigram, there) (exchanged (trigrams_at ds number trigram) (trigrams_of_body body trigram))
     moved trigram n false e =
         let back : (number == n) ≡ false = grind (arith, nat_tests) in
-        rw (e, back) (same_as (holds old.postings trigram n) (has fresh trigram) (has gone trigram) ∙ kept.postings trigram n)
+        rw (e, back) (same_as (trigrams_at ds n trigram) (has fresh trigram) (has gone trigram))
 
 -- ---- the bytes of the bodies
 
@@ -441,3 +471,182 @@ RiseTo-same last old new same rises = record {
 
 pub RiseTo-none : RiseTo 0 []
 RiseTo-none = record { rise = λ k inside. absurd (omega arith); below = All-nil (λ n. n ≤ 0) }
+
+-- ---- documents that wait
+
+-- the sets after a document is put in whose trigrams wait
+pub AreSetsOf-later : (ds : List Document) (number : ℕ) (name body : List ℕ) (old new : Sets) → AreSetsOf ds old
+    → new.live.members ≡ old.live.members ++ number ∷ [] → new.postings ≡ old.postings
+    → ((n : ℕ) → is_whole new.waiting n ≡ (is_whole old.waiting n && nat_lt n number)) → AreSetsOf (ds ++ document number name body ∷ []) new
+unfolding document_at or_else
+AreSetsOf-later ds number name body old new kept live same waiting = record {
+  live = live ∙ (ap (λ xs. xs ++ number ∷ []) kept.live ∙ sym (map-append (λ d. d.number) ds (document number name body ∷ [])));
+  postings =
+      λ t n whole.
+      (let both = sym (waiting n) ∙ whole in
+      ap (λ sets. holds sets t n) same ∙ kept.postings t n (first_of (is_whole old.waiting n) (nat_lt n number) both)
+      ∙ (passed t n (document_at n ds) (number == n) (differs n (second_of (is_whole old.waiting n) (nat_lt n number) both))
+      ∙ ap (λ found. trigrams_shown found t) (sym (document_at-append n ds (document number name body ∷ [])))));
+  few =
+      λ t n held.
+      ap (λ found. trigrams_shown found t) (document_at-append n ds (document number name body ∷ []))
+      ∙ stays t (document_at n ds) (document_at n (document number name body ∷ [])) (kept.few t n (sym (ap (λ sets. holds sets t n) same) ∙ held));
+}
+  where
+    first_of : (a b : Bool) → (a && b) ≡ true → a ≡ true
+    first_of true b is = refl
+    first_of false b is = is
+
+    second_of : (a b : Bool) → (a && b) ≡ true → b ≡ true
+    second_of true b is = is
+    second_of false b is = absurd (false≢true is)
+
+    differs : (n : ℕ) → nat_lt n number ≡ true → (number == n) ≡ false
+    differs n below = grind (arith, nat_tests)
+
+    passed : (t n : ℕ) (found : Option (List ℕ × List ℕ)) (same : Bool) → same ≡ false
+        → trigrams_shown found t ≡ trigrams_shown (or_else found (cond same (Some (name, body)) None)) t
+    passed t n (Some d) same e = refl
+    passed t n None true e = absurd (false≢true (sym e))
+    passed t n None false e = refl
+
+    stays : (t : ℕ) (found other : Option (List ℕ × List ℕ)) → trigrams_shown found t ≡ true → trigrams_shown (or_else found other) t ≡ true
+    stays t (Some d) other is = is
+    stays t None other is = absurd (false≢true is)
+
+-- none of the fresh trigrams' sets has the number
+pub fresh_are_absent : (ds : List Document) (number : ℕ) (body fresh : List ℕ) (sets : Sets) → AreSetsOf ds sets
+    → ((t : ℕ) → has fresh t ≡ (trigrams_of_body body t && not (trigrams_at ds number t))) → IsAbsent sets.postings fresh number
+fresh_are_absent ds number body fresh sets kept fresh_is t there =
+    not_held (holds sets.postings t number)
+    (λ held. false≢true (sym (none (trigrams_of_body body t)) ∙ (ap (λ b. trigrams_of_body body t && not b) (sym (kept.few t number held)) ∙ sym (fresh_is t) ∙ there)))
+  where
+    none : (b : Bool) → (b && not true) ≡ false
+    none true = refl
+    none false = refl
+
+-- what waits, in two lists of documents
+waiting-append : (first : ℕ) (xs ys : List Document) (t n : ℕ) → is_waiting first (xs ++ ys) t n ≡ (is_waiting first xs t n || is_waiting first ys t n)
+waiting-append first xs ys t n =
+    list_any-append (λ (d : Document). not (nat_lt d.number first) && (trigrams_of_body d.body t && d.number == n)) xs ys
+
+-- one more slot
+pub waiting-slot : (first : ℕ) (slots : List Slot) (at : ℕ) (slot : Slot) → at < length slots → slot ≡ get_or slots at slot → (t n : ℕ)
+    → is_waiting first (documents_in (take (at + 1) slots)) t n
+    ≡ (is_waiting first (documents_in (take at slots)) t n || is_waiting first (documents_of_slot slot.number slot.occupant) t n)
+waiting-slot first slots at slot inside is t n =
+    let next : take (at + 1) slots ≡ take at slots ++ slot ∷ [] =
+    ap (λ k. take k slots) (add-one at) ∙ take-suc slots at slot inside ∙ ap (λ x. take at slots ++ x ∷ []) (sym is) in
+    rw (next, documents_in-push (take at slots) slot)
+    (waiting-append first (documents_in (take at slots)) (documents_of_slot slot.number slot.occupant) t n)
+
+pub listed-push : (old new : List Entry) (e : Entry) → new ≡ old ++ e ∷ [] → (t n : ℕ)
+    → is_listed new t n ≡ (is_listed old t n || (has e.trigrams.now t && e.number == n))
+listed-push old new e is t n =
+    rw (is, list_any-append (λ (x : Entry). has x.trigrams.now t && x.number == n) old (e ∷ []))
+    (ap (λ b. is_listed old t n || b) (or-false (has e.trigrams.now t && e.number == n)))
+
+-- the entry of a document
+pub entry_of : (first number : ℕ) (name body trigrams : List ℕ) → first ≤ number → ListsTrigrams body trigrams → (t n : ℕ)
+    → (has trigrams t && number == n) ≡ is_waiting first (document number name body ∷ []) t n
+entry_of first number name body trigrams high lists t n =
+    let not_low : nat_lt number first ≡ false = grind (arith, nat_tests) in
+    rw (not_low, listed body trigrams lists t) (sym (or-false (trigrams_of_body body t && number == n)))
+
+pub no_entry : (first number : ℕ) (name body : List ℕ) → number < first → (t n : ℕ) → is_waiting first (document number name body ∷ []) t n ≡ false
+no_entry first number name body low t n = let is_low : nat_lt number first ≡ true = grind (arith, nat_tests) in rw is_low refl
+
+-- of documents with different numbers those wait that have the number and the trigram
+pub waiting_are : (first : ℕ) (ds : List Document) → Numbered ds → (t n : ℕ) → is_waiting first ds t n ≡ (not (nat_lt n first) && trigrams_at ds n t)
+unfolding document_at
+waiting_are first [] numbered t n = none (nat_lt n first)
+  where
+    none : (b : Bool) → false ≡ (not b && false)
+    none true = refl
+    none false = refl
+waiting_are first (d ∷ ds) numbered t n = go (d.number == n) refl (waiting_are first ds numbered.1 t n)
+  where
+    go : (same : Bool) → (d.number == n) ≡ same → is_waiting first ds t n ≡ (not (nat_lt n first) && trigrams_at ds n t)
+        → ((not (nat_lt d.number first) && (trigrams_of_body d.body t && d.number == n)) || is_waiting first ds t n)
+        ≡ (not (nat_lt n first) && trigrams_shown (cond (d.number == n) (Some (d.name, d.body)) (document_at n ds)) t)
+    go true e later =
+        let same : d.number ≡ n = grind (arith, nat_tests) in
+        let rest : document_at n ds ≡ None = document_at-none n ds (λ k x inside. (let above = numbered.0 k x inside in λ at. omega arith)) in
+        rw (e, later, rest, same) (one (not (nat_lt n first)) (trigrams_of_body d.body t))
+      where
+        one : (a b : Bool) → ((a && (b && true)) || (a && false)) ≡ (a && b)
+        one true true = refl
+        one true false = refl
+        one false b = refl
+    go false e later = rw (e, later) (other (not (nat_lt d.number first)) (trigrams_of_body d.body t) (not (nat_lt n first) && trigrams_at ds n t))
+      where
+        other : (a b c : Bool) → ((a && (b && false)) || c) ≡ c
+        other true true c = refl
+        other true false c = refl
+        other false b c = refl
+
+ok_holds : {T E P : Type 0} (r : Result T E) → OnOk r P → IsOk r → P
+ok_holds (Ok x) p done = p
+ok_holds (Err e) p done = absurd (false≢true done)
+
+-- the sets after some of the documents that wait, or all, are put into them
+pub AreSetsOf-filled : {T E : Type 0} (ds : List Document) → Numbered ds → (first : ℕ) (entries : List Entry) (old new : Sets) (r : Result T E) → AreSetsOf ds old
+    → old.waiting ≡ Some first → ((t n : ℕ) → is_listed entries t n ≡ is_waiting first ds t n) → new.live.members ≡ old.live.members
+    → OnOk r ((t n : ℕ) → holds new.postings t n ≡ (holds old.postings t n || is_listed entries t n))
+    → ((t n : ℕ) → holds old.postings t n ≡ true → holds new.postings t n ≡ true)
+    → ((t n : ℕ) → holds new.postings t n ≡ true → (holds old.postings t n || is_listed entries t n) ≡ true)
+    → ((new.waiting ≡ old.waiting) ⊎ IsOk r) → AreSetsOf ds new
+AreSetsOf-filled ds numbered first entries old new r kept some entries_are live ok stays grown waiting = record {
+  live = live ∙ kept.live;
+  postings = λ t n whole. postings t n whole waiting;
+  few = few;
+}
+  where
+    listed_at : (t n : ℕ) → is_listed entries t n ≡ (not (nat_lt n first) && trigrams_at ds n t)
+    listed_at t n = entries_are t n ∙ waiting_are first ds numbered t n
+
+    second : (a b : Bool) → (a && b) ≡ true → b ≡ true
+    second true b is = is
+    second false b is = absurd (false≢true is)
+
+    either : (a b c : Bool) → (a || b) ≡ true → (a ≡ true → c ≡ true) → (b ≡ true → c ≡ true) → c ≡ true
+    either true b c is left right = left refl
+    either false b c is left right = right is
+
+    few : (t n : ℕ) → holds new.postings t n ≡ true → trigrams_at ds n t ≡ true
+    few t n held =
+        either (holds old.postings t n) (is_listed entries t n) (trigrams_at ds n t) (grown t n held) (kept.few t n)
+        (λ there. second (not (nat_lt n first)) (trigrams_at ds n t) (sym (listed_at t n) ∙ there))
+
+    before : (t n : ℕ) → nat_lt n first ≡ true → holds new.postings t n ≡ trigrams_at ds n t
+    before t n low =
+        both_ways (holds new.postings t n) (trigrams_at ds n t) (few t n)
+        (λ there. stays t n (kept.postings t n (rw some low) ∙ there))
+
+    postings : (t n : ℕ) → is_whole new.waiting n ≡ true → (new.waiting ≡ old.waiting) ⊎ IsOk r → holds new.postings t n ≡ trigrams_at ds n t
+    postings t n whole (inl same) = before t n (rw (same, some) at whole)
+    postings t n whole (inr done) = cases (nat_lt n first) refl
+      where
+        cases : (low : Bool) → nat_lt n first ≡ low → holds new.postings t n ≡ trigrams_at ds n t
+        cases true e = before t n e
+        cases false e =
+            let all = ok_holds r ok done in
+            both_ways (holds new.postings t n) (trigrams_at ds n t) (few t n)
+            (λ there. all t n ∙ right (holds old.postings t n) (is_listed entries t n) (listed_at t n ∙ rw (e, there) refl))
+          where
+            right : (a b : Bool) → b ≡ true → (a || b) ≡ true
+            right true b is = refl
+            right false b is = is
+
+-- a body without bytes has no trigrams
+no_trigrams : (t : ℕ) → trigrams_of_body [] t ≡ false
+unfolding trigrams_of_body lines_of
+no_trigrams t = refl
+
+pub lists_nothing : (none : List ℕ) → none ≡ [] → ListsTrigrams [] none
+lists_nothing none e =
+    rw e
+    (record {
+      rising = λ k inside. absurd (omega arith);
+      members = λ t. (λ there. absurd (omega (arith, there.1)), λ is. absurd (false≢true (sym (no_trigrams t) ∙ is)));
+    })

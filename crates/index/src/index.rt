@@ -30,6 +30,7 @@ use std::alloc::{AllocError, Global};
 use std::collections::BTreeMap;
 use std::marker::Model;
 use std::ops::Bound;
+use std::thread::Threads;
 
 /// The documents of a list that is shorter than the number of documents in question divided by this are sorted by name.
 /// For a longer list, all documents in question are gone through in the order of their names.
@@ -145,6 +146,44 @@ impl Index {
         Ok(())
     }
 
+    /// As `apply_put`, but a new document waits to be put into the sets of its trigrams, until `fill` puts all that wait there
+    /// together.
+    pub fn put_later(&mut self, name: &Name, held: &Held) -> Result<(), AllocError>
+        requires { self.old.version + 1 < 2 ^ 32 }
+        ensures ok { OnOk result (self.new ≡ applied (put_command name.now held.now) self.old) }
+        ensures err { OnErr result (self.new ≡ self.old) }
+    {
+        match self.number(name) {
+            Some(_) => self.apply_put(name, held),
+            None => self.put_new_later(name, held),
+        }
+    }
+
+    fn put_new_later(&mut self, name: &Name, held: &Held) -> Result<(), AllocError>
+        requires few { self.old.version + 1 < 2 ^ 32 }
+        requires new { number_of name.now self.old.documents ≡ None }
+        ensures ok { OnOk result (self.new ≡ applied (put_command name.now held.now) self.old) }
+        ensures err { OnErr result (self.new ≡ self.old) }
+    {
+        let held = held.share()?;
+        let _trigrams = held.trigrams();
+        let number = self.version + 1;
+        let none = Trigrams::new(*self.store.slots.allocator(), &[])?;
+        let own = enter(&mut self.numbers, &mut self.store, name, number, &none)?;
+        self.store.put_later(number, Occupant { name: own, held });
+        self.version = number;
+        Ok(())
+    }
+
+    /// Puts the documents that wait into the sets of their trigrams, in up to `threads` threads, each with a range of the
+    /// trigrams. The index has the same documents in either case. An `Err` means that memory ran out; some may then still
+    /// wait, and until a further call `candidates` answers with an `Err` too.
+    pub fn fill<R: Threads + Sync>(&mut self, rt: &R, threads: usize) -> Result<(), AllocError>
+        ensures { self.new ≡ self.old }
+    {
+        self.store.fill(rt, threads)
+    }
+
     /// Applies the `Remove` of this name. The limit on commands is that of `apply`. It takes no memory, and never
     /// returns an `Err`, although its type is that of `apply_put`.
     pub fn remove(&mut self, name: &Name) -> Result<(), AllocError>
@@ -206,13 +245,17 @@ impl Index {
         &self.store.sets.live
     }
 
-    /// The numbers of the documents whose trigrams meet the query, rising. An `Err` means that memory ran out.
+    /// The numbers of the documents whose trigrams meet the query, rising. An `Err` means that memory ran out, now or when
+    /// documents were last to be put into the sets of their trigrams (`fill`).
     pub fn candidates(&self, alloc: Global, query: &Query) -> Result<posting::List, AllocError>
         ensures { IfOk result (λ chosen. chosen.members
             ≡ map (λ d. d.number) (filter (meets (formula_of query.now)) self.now.documents)) }
     {
         let sets = &self.store.sets;
-        sets.postings.select(alloc, query, &sets.live)
+        match sets.waiting {
+            Some(_) => Err(AllocError),
+            None => sets.postings.select(alloc, query, &sets.live),
+        }
     }
 
     /// The documents whose numbers are in the list and whose names begin with the prefix, in the order of their names: all

@@ -1,9 +1,9 @@
 //! The sets by which an index finds its documents.
 
-ghost use Rattle.std.specs.Prelude.{◌≡◌, ℕ, false, not, ◌==◌, ◌||◌, ◌&&◌, [], ◌∷◌, ◌++◌, filter, OnOk, IfOk};
-ghost use Rattle.posting.specs.ListValue.{has, without};
+ghost use Rattle.std.specs.Prelude.{◌≡◌, ℕ, ◌<◌, All, None, nat_lt, false, not, ◌==◌, ◌||◌, ◌&&◌, [], ◌∷◌, ◌++◌, filter, OnOk, IfOk};
+ghost use Rattle.posting.specs.ListValue.{has, without, HasRoom};
 ghost use Rattle.posting.specs.Postings.{holds, SameSets, IsPrepared, IsAbsent, AllDiffer};
-ghost use Rattle.index.specs.Private.Sets.{HasRoomFor, IsNew, IsChange};
+ghost use Rattle.index.specs.Private.Sets.{HasRoomFor, IsNew, IsChange, is_whole};
 
 use posting::{List, Postings, Trigrams};
 use std::alloc::{AllocError, Global};
@@ -24,6 +24,8 @@ pub(crate) struct Sets {
     pub(crate) live: List,
     /// For each trigram, the numbers of the documents whose body has it.
     pub(crate) postings: Postings,
+    /// The number from which on documents wait to be put into the sets of their trigrams, if any do.
+    pub(crate) waiting: Option<u32>,
 }
 
 impl Sets {
@@ -31,10 +33,12 @@ impl Sets {
     pub(crate) fn new(alloc: Global) -> Sets
         ensures live { result.live.members ≡ [] }
         ensures postings { (trigram n : ℕ) → holds result.postings trigram n ≡ false }
+        ensures waiting { result.waiting ≡ None }
     {
         Sets {
             live: List::new(alloc),
             postings: Postings::new(alloc),
+            waiting: None,
         }
     }
 
@@ -43,6 +47,7 @@ impl Sets {
     pub(crate) fn make_room(&mut self, number: u32, trigrams: &Trigrams) -> Result<(), AllocError>
         ensures live { self.new.live.members ≡ self.old.live.members }
         ensures postings { SameSets self.old.postings self.new.postings }
+        ensures waiting { self.new.waiting ≡ self.old.waiting }
         ensures ok { OnOk result (HasRoomFor self.new number trigrams.now) }
     {
         self.live.room_for(number)?;
@@ -59,6 +64,7 @@ impl Sets {
     ) -> Result<Change, AllocError>
         ensures live { self.new.live.members ≡ self.old.live.members }
         ensures postings { SameSets self.old.postings self.new.postings }
+        ensures waiting { self.new.waiting ≡ self.old.waiting }
         ensures ok { IfOk result (λ change. IsChange old.now new.now change
             × IsPrepared self.new.postings number change.fresh) }
     {
@@ -74,6 +80,7 @@ impl Sets {
         requires absent { IsAbsent self.old.postings change.now.fresh number }
         requires once { AllDiffer change.now.fresh }
         ensures live { self.new.live.members ≡ self.old.live.members }
+        ensures waiting { self.new.waiting ≡ self.old.waiting }
         ensures postings { (trigram n : ℕ) → holds self.new.postings trigram n
             ≡ ((holds self.old.postings trigram n || (has change.now.fresh trigram && number == n))
             && not (has change.now.gone trigram && n == number)) }
@@ -86,6 +93,7 @@ impl Sets {
     /// Takes out the document with this number and these trigrams.
     pub(crate) fn take_out(&mut self, number: u32, trigrams: &Trigrams)
         ensures live { self.new.live.members ≡ without number self.old.live.members }
+        ensures waiting { self.new.waiting ≡ self.old.waiting }
         ensures postings { (trigram n : ℕ) → holds self.new.postings trigram n
             ≡ (holds self.old.postings trigram n && not (has trigrams.now trigram && n == number)) }
     {
@@ -99,10 +107,33 @@ impl Sets {
         requires room { HasRoomFor self.old number trigrams.now }
         requires above { IsNew self.old number trigrams.now }
         ensures live { self.new.live.members ≡ self.old.live.members ++ number ∷ [] }
+        ensures waiting { self.new.waiting ≡ self.old.waiting }
         ensures postings { (trigram n : ℕ) → holds self.new.postings trigram n
             ≡ (holds self.old.postings trigram n || (has trigrams.now trigram && number == n)) }
     {
         self.live.push(number);
         self.postings.add(number, trigrams);
+    }
+
+    /// Puts in a document whose trigrams wait for `fill`. There is room for its number, which is above all others.
+    pub(crate) fn put_later(&mut self, number: u32)
+        requires room { HasRoom self.old.live }
+        requires above { All (λ m. m < number) self.old.live.members }
+        ensures live { self.new.live.members ≡ self.old.live.members ++ number ∷ [] }
+        ensures postings { self.new.postings ≡ self.old.postings }
+        ensures waiting { (n : ℕ) → is_whole self.new.waiting n ≡ (is_whole self.old.waiting n && nat_lt n number) }
+    {
+        self.live.push(number);
+        self.waiting = Some(earlier(self.waiting, number));
+    }
+}
+
+/// The lower of both numbers, or the only one.
+fn earlier(waiting: Option<u32>, number: u32) -> u32
+    ensures { (n : ℕ) → nat_lt n result ≡ (is_whole waiting n && nat_lt n number) }
+{
+    match waiting {
+        Some(first) => first.min(number),
+        None => number,
     }
 }

@@ -1,17 +1,20 @@
 //! What an index keeps of its documents: names and bodies by number, and the sets by which they are found.
 
-ghost use Rattle.std.specs.Prelude.{◌≡◌, ℕ, ◌+◌, ◌<◌, ◌^◌, List, [], ◌∷◌, ◌++◌, length, map, OnOk, IfOk, IsSome};
+ghost use Rattle.std.specs.Prelude.{◌||◌, ◌≡◌, ℕ, ◌+◌, ◌<◌, ◌^◌, List, [], ◌∷◌, ◌++◌, length, map, OnOk, IfOk, IsSome};
 ghost use Rattle.query.specs.Trigrams.{ListsTrigrams};
 ghost use Rattle.index.specs.Documents.{document, document_at};
 ghost use Rattle.index.specs.State.{body_bytes};
-ghost use Rattle.index.specs.Private.Slots.{without_number, with_body_at};
+ghost use Rattle.posting.specs.Postings.{is_listed};
+ghost use Rattle.index.specs.Private.Sets.{is_waiting};
+ghost use Rattle.index.specs.Private.Slots.{documents_in, documents_of_slot, without_number, with_body_at};
 ghost use Rattle.index.specs.Private.Store.{stored, IsStore, HasPlaceFor, IsReadyFor};
 
 use crate::held::Held;
 use crate::sets::{Change, Sets};
 use crate::slots::{Occupant, Slot, compact, exchange, give_back, occupant_at, take};
-use posting::Trigrams;
+use posting::{Entry, Trigrams};
 use std::alloc::{AllocError, Global};
+use std::thread::Threads;
 
 /// The documents of an index, with their sets.
 #[derive(Drop)]
@@ -84,6 +87,47 @@ impl Store {
         });
     }
 
+    /// Puts in a document with this number, for which there is room, but for its trigrams: they wait for `fill`.
+    pub(crate) fn put_later(&mut self, number: u32, occupant: Occupant)
+        requires store { (last : ℕ) × IsStore last self.old × (last < number) }
+        requires room { HasPlaceFor self.old number [] }
+        requires bytes { body_bytes (stored self.old) + length occupant.held < 2 ^ 64 }
+        ensures documents { stored self.new ≡ stored self.old ++ document number occupant.name occupant.held ∷ [] }
+        ensures store { IsStore number self.new }
+    {
+        self.sets.put_later(number);
+        self.held_bytes += occupant.held.body().as_bytes().len() as u64;
+        self.count += 1;
+        self.slots.push_reserved(Slot {
+            number,
+            occupant: Some(occupant),
+        });
+    }
+
+    /// Puts the documents that wait into the sets of their trigrams, in up to `threads` threads. An `Err` means that memory
+    /// ran out; some may then still wait. The documents stay as they are in either case.
+    pub(crate) fn fill<R: Threads + Sync>(
+        &mut self,
+        rt: &R,
+        threads: usize,
+    ) -> Result<(), AllocError>
+        ensures documents { stored self.new ≡ stored self.old }
+        ensures store { (last : ℕ) → IsStore last self.old → IsStore last self.new }
+    {
+        let Some(first) = self.sets.waiting else {
+            return Ok(());
+        };
+        let alloc = *self.slots.allocator();
+        let entries = entries_from(alloc, first, self.slots.as_slice())?;
+        match self.sets.postings.fill(rt, threads, entries.as_slice()) {
+            Ok(()) => {
+                self.sets.waiting = None;
+                Ok(())
+            }
+            Err(error) => Err(error),
+        }
+    }
+
     /// Makes room for the document with this number to have a body with these trigrams in place of its own. An `Err`
     /// means that memory ran out. The documents stay as they are in either case.
     pub(crate) fn prepare(&mut self, number: u32, trigrams: &Trigrams) -> Result<Change, AllocError>
@@ -115,4 +159,33 @@ impl Store {
             self.held_bytes -= old.body().as_bytes().len() as u64;
         }
     }
+}
+
+/// The numbers of the documents from the number `first` on, each with its trigrams.
+///
+/// An `Err` means that memory ran out.
+fn entries_from(alloc: Global, first: u32, slots: &[Slot]) -> Result<Vec<Entry<'_>>, AllocError>
+    ensures { IfOk result (λ entries. (t n : ℕ) → is_listed entries.items t n ≡ is_waiting first (documents_in slots.now) t n) }
+{
+    let mut entries = Vec::new(alloc);
+    for at in 0..slots.len() {
+        add_entry(first, &slots[at], &mut entries)?;
+    }
+    Ok(entries)
+}
+
+/// Adds the document in this slot, if there is one and its number is not below `first`.
+fn add_entry<'a>(first: u32, slot: &'a Slot, entries: &mut Vec<Entry<'a>>) -> Result<(), AllocError>
+    ensures { OnOk result ((t n : ℕ) → is_listed entries.new.items t n
+        ≡ (is_listed entries.old.items t n || is_waiting first (documents_of_slot slot.now.number slot.now.occupant) t n)) }
+{
+    if let Some(occupant) = &slot.occupant {
+        if slot.number >= first {
+            entries.push(Entry {
+                number: slot.number,
+                trigrams: occupant.held.trigrams(),
+            })?;
+        }
+    }
+    Ok(())
 }

@@ -18,10 +18,10 @@ pub All-from_has : (P : ℕ → Type 0) (xs : List ℕ) → ((m : ℕ) → has x
 All-from_has P xs each = All-from_get_or P xs 0 (λ i inside. each (get_or xs i 0) (has_at xs i (get_or xs i 0) inside refl))
 
 -- a list that is gone through: the numbers past, and those left
-pub passed-next : (all past left new : List ℕ) (m : ℕ) → all ≡ past ++ left → left ≡ m ∷ new → all ≡ past ++ m ∷ new
+pub passed-next : {X : Type 0} (all past left new : List X) (m : X) → all ≡ past ++ left → left ≡ m ∷ new → all ≡ past ++ m ∷ new
 passed-next all past left new m e h = e ∙ ap (λ xs. past ++ xs) h
 
-pub passed-more : (all past left new : List ℕ) (m : ℕ) → all ≡ past ++ left → left ≡ m ∷ new → all ≡ (past ++ m ∷ []) ++ new
+pub passed-more : {X : Type 0} (all past left new : List X) (m : X) → all ≡ past ++ left → left ≡ m ∷ new → all ≡ (past ++ m ∷ []) ++ new
 passed-more all past left new m e h = e ∙ (ap (λ xs. past ++ xs) h ∙ sym (append_assoc past (m ∷ []) new))
 
 pub passed-all : (all past left : List ℕ) → all ≡ past ++ left → left ≡ [] → all ≡ past

@@ -13,5 +13,8 @@ pub mod Tables
 pub mod PageLemmas
 pub mod Places
 pub mod Widening
+pub mod PartLemmas
+pub mod Fillings
+pub mod Moving
 pub mod Changes
 pub mod Selection

@@ -1,8 +1,10 @@
 -- One set of numbers for each trigram (the posting lists of Russ Cox's "Regular Expression Matching with a
 -- Trigram Index", 2012), as a table by the trigrams' numbers.
 use Rattle.std.specs.Prelude.{◌≡◌, ◌≢◌, ℕ, ◌<◌, ◌≤◌, Bool, false, not, ◌&&◌, ◌||◌, ◌==◌, IsTrue, List, [], All, AllPairs, filter, slice_index_or}
+use Rattle.std.specs.List.{list_any}
 use Rattle.query.specs.Trigrams.{TrigramSet}
 use Rattle.query.specs.Query.{Formula, is_met}
+use Rattle.posting.specs.declared.filling.Entry.{Entry}
 use Rattle.posting.specs.ListValue.{has}
 
 -- a set of numbers: its numbers, rising, and a limit: each number below it can be added without memory
@@ -53,6 +55,10 @@ KeepsRoom old new = (trigram : ℕ) → (set_of old trigram).limit ≤ (set_of n
 -- The number was added to the sets of these trigrams, and nothing else changed.
 abbrev pub AddsNumber : List NumberSet → List NumberSet → List ℕ → ℕ → Type 0
 AddsNumber old new trigrams number = (trigram n : ℕ) → holds new trigram n ≡ (holds old trigram n || (has trigrams trigram && number == n))
+
+-- whether one of these entries has the number and the trigram
+abbrev pub is_listed : List Entry → ℕ → ℕ → Bool
+is_listed entries trigram number = list_any (λ e. has e.trigrams.now trigram && e.number == number) entries
 
 -- The number was taken out of the sets of these trigrams, and nothing else changed.
 abbrev pub WithdrawsNumber : List NumberSet → List NumberSet → List ℕ → ℕ → Type 0

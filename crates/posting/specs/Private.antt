@@ -2,5 +2,6 @@
 pub mod Gaps
 pub mod PageTable
 pub mod Pages
+pub mod Parts
 pub mod Selection
 pub mod Sets

@@ -2,14 +2,17 @@
 //! Expression Matching with a Trigram Index" (2012).
 #![tactic(auto)]
 
+mod filling;
 mod gaps;
 mod laws;
 mod list;
 mod owned;
 mod pages;
+mod part;
 mod postings;
 mod trigrams;
 
+pub use filling::Entry;
 pub use laws::prepared_sets_have_room;
 pub use list::{List, Lookup, Numbers};
 pub use postings::Postings;

@@ -10,7 +10,7 @@ use query::Trigram;
 use std::alloc::AllocError;
 
 /// The room for this many lists is not given back.
-const FEW: usize = 4096;
+const FEW: usize = 512;
 
 /// A list of numbers, and the trigram whose list it is.
 #[derive(Drop)]

@@ -13,7 +13,7 @@ use std::marker::Model;
 const PAGE: usize = 64;
 
 /// The pages of this many sets are not given back.
-const FEW: usize = 4096;
+const FEW: usize = 512;
 
 /// Numbers below this fit into a slot.
 pub(crate) const SLOT_LIMIT: u32 = 2147483648;

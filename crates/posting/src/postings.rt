@@ -1,23 +1,23 @@
 //! The sets of all trigrams.
 
-ghost use Rattle.std.specs.Prelude.{◌≡◌, ◌≢◌, ℕ, ◌<◌, ◌≤◌, ◌||◌, ◌==◌, false, [], ◌∷◌, filter, map, IfOk, IfSome, IfNone, OnOk, IsTrue};
+ghost use Rattle.std.specs.Prelude.{◌≡◌, ◌≢◌, ℕ, ◌<◌, ◌≤◌, ◌||◌, ◌==◌, true, false, [], ◌∷◌, filter, map, IfOk, IfSome, IfNone, OnOk, IsTrue};
 ghost use Rattle.std.specs.List.{list_all};
 ghost use Rattle.query.specs.Query.{formula_of, formulas_of, texts, all_of, one_of};
 ghost use Rattle.query.specs.Pairs.{texts_in};
 ghost use Rattle.posting.specs.ListValue.{has, without};
 ghost use Rattle.posting.specs.Postings.{slot_limit, set_of, holds, IsPrepared, IsAbsent, AllDiffer};
-ghost use Rattle.posting.specs.Postings.{SameSets, KeepsRoom, AddsNumber, WithdrawsNumber, GivesBack, selected, trigrams_with};
-ghost use Rattle.posting.specs.Private.Pages.{StandsFor};
+ghost use Rattle.posting.specs.Postings.{SameSets, KeepsRoom, is_listed, AddsNumber, WithdrawsNumber, GivesBack, selected, trigrams_with};
 ghost use Rattle.posting.specs.Private.Sets.{members_of};
 ghost use Rattle.posting.specs.Private.Selection.{Finds};
 
+use crate::filling::{Entry, fill_parts};
 use crate::list::{List, union_of};
-use crate::owned::{Owned, add_list, drop_list, give_back, make_first};
-use crate::pages::{Pages, SLOT_LIMIT, Slot};
+use crate::part::{PARTS, Part, Set, part_of, place_in_part};
 use crate::trigrams::Trigrams;
 use query::{Pairs, Query, Trigram, trigrams_in_turn};
 use std::alloc::{AllocError, Global};
 use std::marker::Model;
+use std::thread::Threads;
 
 /// A set of numbers for each trigram.
 ///
@@ -28,27 +28,19 @@ use std::marker::Model;
 /// above a number, and `add` puts the number in.
 #[derive(Drop)]
 pub struct Postings {
-    pages: Pages,
-    lists: Vec<Owned>,
-}
-
-/// The set of a trigram, where it stands.
-enum Set<'a> {
-    Empty,
-    One(u32),
-    List(&'a List),
+    parts: [Part; 8],
 }
 
 impl Model for Postings {
-    ghost use Rattle.std.specs.Prelude.{List};
+    ghost use Rattle.std.specs.Prelude.{List, length, ◌≡◌};
     ghost use Rattle.posting.specs.Postings.{NumberSet};
-    ghost use Rattle.posting.specs.Private.Pages.{IsSound, slot_of, table_of};
+    ghost use Rattle.posting.specs.Private.Parts.{whole_of};
 
     ghost Value = { List NumberSet };
 
-    ghost view = { λ p. table_of p.pages p.lists.items };
+    ghost view = { λ p. whole_of p.parts };
 
-    ghost invariant = { λ p. IsSound (slot_of p.pages) p.lists.items };
+    ghost invariant = { λ p. length p.parts ≡ 8 };
 }
 
 impl Postings {
@@ -57,8 +49,16 @@ impl Postings {
         ensures { (trigram n : ℕ) → holds result trigram n ≡ false }
     {
         Postings {
-            pages: Pages::new(alloc),
-            lists: Vec::new(alloc),
+            parts: [
+                Part::new(alloc),
+                Part::new(alloc),
+                Part::new(alloc),
+                Part::new(alloc),
+                Part::new(alloc),
+                Part::new(alloc),
+                Part::new(alloc),
+                Part::new(alloc),
+            ],
         }
     }
 
@@ -104,6 +104,24 @@ impl Postings {
         self.give_back();
     }
 
+    /// Puts each of these numbers into the sets of its trigrams, in up to `threads` threads, each with a range of the sets. A
+    /// number that is in a set already stays there.
+    ///
+    /// An `Err` means that memory ran out. Some of the numbers may then be in some sets, and others not; no set has lost a number.
+    pub fn fill<R: Threads + Sync>(
+        &mut self,
+        rt: &R,
+        threads: usize,
+        entries: &[Entry<'_>],
+    ) -> Result<(), AllocError>
+        ensures ok { OnOk result ((t n : ℕ) → holds self.new t n ≡ (holds self.old t n || is_listed entries.now t n)) }
+        ensures kept { (t n : ℕ) → holds self.old t n ≡ true → holds self.new t n ≡ true }
+        ensures grown { (t n : ℕ) → holds self.new t n ≡ true → (holds self.old t n || is_listed entries.now t n) ≡ true }
+    {
+        let alloc = self.parts[0].allocator();
+        fill_parts(rt, alloc, threads, 0, self.parts.as_mut_slice(), entries)
+    }
+
     /// The numbers of `live` whose trigrams meet the query. The trigrams of a number are those whose sets have it.
     ///
     /// Calls nest as deep as the query is high. By measurement each level takes at most 720 bytes of stack, so 2 MiB of
@@ -125,17 +143,8 @@ impl Postings {
         ensures room { KeepsRoom self.old self.new }
         ensures ok { OnOk result (number < (set_of self.new trigram).limit) }
     {
-        match self.pages.slot(trigram) {
-            Slot::Free => make_first(&mut self.pages, &mut self.lists, trigram, number),
-            Slot::One(held) => {
-                let list = List::one(*self.lists.allocator(), held);
-                add_list(&mut self.pages, &mut self.lists, trigram, list)
-            }
-            Slot::Listed(place) => {
-                let owned = &mut self.lists[place];
-                owned.list.room_for(number)
-            }
-        }
+        let part = &mut self.parts[part_of(trigram)];
+        part.make_room(place_in_part(trigram), number)
     }
 
     fn insert(&mut self, trigram: Trigram, number: u32)
@@ -144,13 +153,8 @@ impl Postings {
         ensures at { (n : ℕ) → has (set_of self.new trigram).members n ≡ (has (set_of self.old trigram).members n || number == n) }
         ensures others { (t : ℕ) → t ≢ trigram → set_of self.new t ≡ set_of self.old t }
     {
-        match self.pages.slot(trigram) {
-            Slot::Listed(place) => {
-                let owned = &mut self.lists[place];
-                owned.list.insert(number);
-            }
-            _ => self.pages.set_slot(trigram, Slot::One(number)),
-        }
+        let part = &mut self.parts[part_of(trigram)];
+        part.insert(place_in_part(trigram), number);
     }
 
     fn remove(&mut self, trigram: Trigram, number: u32)
@@ -158,22 +162,8 @@ impl Postings {
         ensures others { (t : ℕ) → t ≢ trigram → set_of self.new t ≡ set_of self.old t }
         ensures empty { (set_of self.new trigram).members ≡ [] → (set_of self.new trigram).limit ≤ slot_limit }
     {
-        match self.pages.slot(trigram) {
-            Slot::Free => {}
-            Slot::One(held) => {
-                if held == number {
-                    self.pages.set_slot(trigram, Slot::Free);
-                }
-            }
-            Slot::Listed(place) => {
-                let owned = &mut self.lists[place];
-                owned.list.remove(number);
-                match small(&owned.list) {
-                    Some(slot) => drop_list(&mut self.pages, &mut self.lists, place, trigram, slot),
-                    None => owned.list.give_back(),
-                }
-            }
-        }
+        let part = &mut self.parts[part_of(trigram)];
+        part.remove(place_in_part(trigram), number);
     }
 
     /// Gives back memory that the sets do not need.
@@ -181,19 +171,17 @@ impl Postings {
         ensures members { (t : ℕ) → (set_of self.new t).members ≡ (set_of self.old t).members }
         ensures limits { (t : ℕ) → (set_of self.old t).limit ≤ slot_limit → (set_of self.new t).limit ≤ slot_limit }
     {
-        give_back(&mut self.lists);
-        self.pages.give_back();
+        for number in 0..PARTS {
+            let part = &mut self.parts[number];
+            part.give_back();
+        }
     }
 
     /// The set of a trigram.
     fn set(&self, trigram: Trigram) -> Set<'_>
         ensures { members_of result ≡ (set_of self.now trigram).members }
     {
-        match self.pages.slot(trigram) {
-            Slot::Free => Set::Empty,
-            Slot::One(number) => Set::One(number),
-            Slot::Listed(place) => Set::List(&self.lists[place].list),
-        }
+        self.parts[part_of(trigram)].set(place_in_part(trigram))
     }
 
     /// The numbers of `within` whose trigrams have this one.
@@ -404,24 +392,6 @@ impl Postings {
             sum = sum.saturating_add(most);
         }
         Ok(sum)
-    }
-}
-
-/// The slot in which the set of a list can stand without the list, if there is one.
-fn small(list: &List) -> Option<Slot>
-    ensures some { IfSome result (λ slot. StandsFor slot list.now.members) }
-    ensures none { IfNone result (list.now.members ≢ []) }
-{
-    let mut numbers = list.numbers();
-    match numbers.next() {
-        None => Some(Slot::Free),
-        Some(number) => {
-            if number < SLOT_LIMIT && numbers.next().is_none() {
-                Some(Slot::One(number))
-            } else {
-                None
-            }
-        }
     }
 }
 

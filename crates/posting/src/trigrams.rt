@@ -83,6 +83,17 @@ impl<'a> Model for TrigramsIterator<'a> {
     ghost invariant = { λ t. All (λ n. n < 16777216) t.numbers };
 }
 
+impl<'a> TrigramsIterator<'a> {
+    /// The same trigrams, once more.
+    pub(crate) fn again(&self) -> TrigramsIterator<'a>
+        ensures { result ≡ self.now }
+    {
+        TrigramsIterator {
+            numbers: self.numbers.again(),
+        }
+    }
+}
+
 impl<'a> Iterator for TrigramsIterator<'a> {
     type Item = Trigram;
 

@@ -15,10 +15,6 @@ carried_on a b c xs ys n r all first rest =
     let there : take (n + r) (xs ++ ys) ≡ xs ++ take r ys = ap (λ k. take (k + r) (xs ++ ys)) all ∙ take-append-add xs ys r in
     rest ∙ (ap (λ s. fold operated s (take r ys)) here ∙ (sym (fold-append operated a xs (take r ys)) ∙ ap (fold operated a) (sym there)))
 
--- some of xs
-pub carried_part : (a b : Shelf) (xs ys : List Operation) (n : ℕ) → n ≤ length xs → b ≡ fold operated a (take n xs) → b ≡ fold operated a (take n (xs ++ ys))
-carried_part a b xs ys n few is = is ∙ ap (fold operated a) (sym (take-append-le n xs ys few))
-
 -- the same where xs is a part of the whole
 pub carried_further : (a b c : Shelf) (xs ys : List Operation) (n r : ℕ) → n ≡ length xs → b ≡ fold operated a (take n (xs ++ ys)) → c ≡ fold operated b (take r ys)
     → c ≡ fold operated a (take (n + r) (xs ++ ys))

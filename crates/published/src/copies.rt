@@ -139,7 +139,8 @@ impl Copies {
         }
         let (open, mut spare) = both.desk.open(rt);
         log.bring_up_all(rt, threads, &mut *spare);
-        if !log.is_all_done() {
+        let filled = spare.fill(rt, threads);
+        if !log.is_all_done() || filled.is_err() {
             both.desk = open.shelve(spare);
             return (Copies { both, log }, Err(AllocError));
         }

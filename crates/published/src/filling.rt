@@ -1,6 +1,6 @@
-//! Pending operations, analysed and carried out side by side.
+//! Pending operations, analysed side by side and carried out.
 
-ghost use Rattle.std.specs.Prelude.{◌≡◌, ◌<◌, ◌≤◌, ◌+◌, ◌++◌, length, fold, take};
+ghost use Rattle.std.specs.Prelude.{◌≡◌, ◌≤◌, length, fold, take};
 ghost use denote.Param.Send.{IsSync};
 ghost use Rattle.published.specs.Private.Shelf.{operated};
 
@@ -11,13 +11,13 @@ use std::thread::{Threads, join_mut};
 /// long as to analyse some hundredth of that.
 const PART: usize = 131_072;
 
-/// While about so many bytes of bodies are carried out, the next ones are analysed.
-const PIECE: usize = 2_097_152;
+/// If so many bytes of bodies are to be analysed, new documents wait to be put into the sets of their trigrams together.
+const MANY: usize = 1_048_576;
 
-/// Carries out these operations on the copy, from the first one on, in up to `threads` threads. Many bytes are cut into
-/// pieces: while one is carried out, the bodies of the next are analysed. Returns how many operations were carried out, which is
-/// all of them unless memory runs out.
-pub(crate) fn fill<R: Threads + Sync>(
+/// Carries out these operations on the copy, from the first one on, after their bodies are analysed in up to `threads` threads.
+/// Where these are many bytes, new documents wait for `Shelf::fill`. Returns how many operations were carried out, which is all of
+/// them unless memory runs out.
+pub(crate) fn carry_out_all<R: Threads + Sync>(
     rt: &R,
     threads: usize,
     copy: &mut Shelf,
@@ -27,56 +27,19 @@ pub(crate) fn fill<R: Threads + Sync>(
     ensures within { result ≤ length operations.old }
     ensures done { copy.new ≡ fold operated copy.old (take result operations.old) }
 {
-    if threads < 2 || bytes_of(operations) < 2 * PIECE {
-        analyse(rt, threads, operations);
-        return carry_out(copy, operations);
-    }
-    let (first, others) = operations.split_at_mut(operations_with(operations, PIECE));
-    analyse(rt, threads, first);
-    fill_by_pieces(rt, threads - 1, copy, first, others)
-}
-
-/// Carries out operations that are analysed, and then others, of which the next piece is analysed meanwhile in up to `threads`
-/// threads.
-#[cycle(fill_by_pieces)]
-fn fill_by_pieces<R: Threads + Sync>(
-    rt: &R,
-    threads: usize,
-    copy: &mut Shelf,
-    analysed: &[Operation],
-    others: &mut [Operation],
-) -> usize
-    ensures same { others.new ≡ others.old }
-    ensures within { result ≤ length (analysed.now ++ others.old) }
-    ensures done { copy.new ≡ fold operated copy.old (take result (analysed.now ++ others.old)) }
-{
-    if others.is_empty() {
-        return carry_out(copy, analysed);
-    }
-    let (next, later) = others.split_at_mut(operations_with(others, PIECE).max(1));
-    let mut ahead = ||
-        requires { IsSync R.row }
-        ensures { next.exit.now ≡ next.entry.now }
-    { analyse(rt, threads, next) };
-    let mut behind = || -> usize
-        ensures within { result ≤ length analysed.entry.now }
-        ensures done { copy.exit.now ≡ fold operated copy.entry.now (take result analysed.entry.now) }
-    { carry_out(copy, analysed) };
-    let ((), done) = join_mut(rt, &mut ahead, &mut behind);
-    if done < analysed.len() {
-        return done;
-    }
-    done + fill_by_pieces(rt, threads, copy, next, later)
+    let later = bytes_of(operations) >= MANY;
+    analyse(rt, threads, operations);
+    carry_out(copy, operations, later)
 }
 
 /// Carries out these operations, one after the other. Returns how many were carried out: all of them, or those before the first one
 /// that was refused.
-fn carry_out(copy: &mut Shelf, operations: &[Operation]) -> usize
+fn carry_out(copy: &mut Shelf, operations: &[Operation], later: bool) -> usize
     ensures within { result ≤ length operations.now }
     ensures done { copy.new ≡ fold operated copy.old (take result operations.now) }
 {
     for at in 0..operations.len() {
-        if copy.carry_out(&operations[at]).is_err() {
+        if copy.carry_out(&operations[at], later).is_err() {
             return at;
         }
     }

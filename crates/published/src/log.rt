@@ -5,7 +5,7 @@ ghost use Rattle.published.specs.declared.shelf.Operation.TheVariants.{Change};
 ghost use Rattle.published.specs.declared.shelf.Update.TheVariants.{Put as put_update};
 ghost use Rattle.published.specs.Private.Shelf.{operated};
 
-use crate::filling::fill;
+use crate::filling::carry_out_all;
 use crate::incoming::Incoming;
 use crate::shelf::{Operation, Shelf, Update};
 use index::{Body, Name};
@@ -148,7 +148,7 @@ fn make_up(
             return Ok(left);
         };
         let work = spare.work(first);
-        spare.carry_out(first)?;
+        spare.carry_out(first, false)?;
         let _ = behind.pop_front();
         left = left.saturating_sub(work);
     }
@@ -174,7 +174,7 @@ fn run_ahead(
             return Ok(left);
         };
         let work = spare.work(next);
-        spare.carry_out(next)?;
+        spare.carry_out(next, false)?;
         *ahead += 1;
         left = left.saturating_sub(work);
     }
@@ -196,5 +196,5 @@ fn fill_ahead<R: Threads + Sync>(
         → spare.new ≡ fold operated shown (take result pending.old.items) }
 {
     let (_, lacking) = pending.make_contiguous().split_at_mut(ahead);
-    ahead + fill(rt, threads, spare, lacking)
+    ahead + carry_out_all(rt, threads, spare, lacking)
 }

@@ -10,6 +10,7 @@ use crate::incoming::Incoming;
 use index::{Index, Name};
 use left_right::Absorb;
 use std::alloc::AllocError;
+use std::thread::Threads;
 
 /// How much work an operation without a body is, in bytes of bodies.
 const LEAST_WORK: usize = 256;
@@ -87,17 +88,29 @@ impl Operation {
 impl Shelf {
     ghost use Rattle.published.specs.Private.Shelf.{operated};
 
-    /// Carries out the operation. After an `Err`, which means that memory ran out or that a body is not analysed, nothing has
+    /// Carries out the operation; if `later`, a new document waits for `fill`. After an `Err`, which means that memory ran out or that a body is not analysed, nothing has
     /// changed.
-    pub(crate) fn carry_out(&mut self, operation: &Operation) -> Result<(), AllocError>
+    pub(crate) fn carry_out(&mut self, operation: &Operation, later: bool) -> Result<(), AllocError>
         ensures ok { OnOk result (self.new ≡ operated self.old operation.now) }
         ensures err { OnErr result (self.new ≡ self.old) }
     {
         match operation {
-            Operation::Change(update) => change(&mut self.index, update)?,
+            Operation::Change(update) => change(&mut self.index, update, later)?,
             Operation::Stamp(front) => self.front = front.again(),
         }
         Ok(())
+    }
+
+    /// Puts the documents that wait into the sets of their trigrams, in up to `threads` threads. An `Err` means that memory ran
+    /// out; some may then still wait.
+    pub(crate) fn fill<R: Threads + Sync>(
+        &mut self,
+        rt: &R,
+        threads: usize,
+    ) -> Result<(), AllocError>
+        ensures { self.new ≡ self.old }
+    {
+        self.index.fill(rt, threads)
     }
 
     /// About how much work the operation is: the bytes of the body that it brings and of the one that it takes away, and
@@ -127,7 +140,7 @@ impl Shelf {
 
 /// Carries out the command. It is refused if memory ran out, for its analysis too, or if the index takes no more commands,
 /// which no desk meets.
-fn change(index: &mut Index, update: &Update) -> Result<(), AllocError>
+fn change(index: &mut Index, update: &Update, later: bool) -> Result<(), AllocError>
     ensures ok { OnOk result (index.new ≡ applied (command_of update.now) index.old) }
     ensures err { OnErr result (index.new ≡ index.old) }
 {
@@ -136,6 +149,7 @@ fn change(index: &mut Index, update: &Update) -> Result<(), AllocError>
     }
     match update {
         Update::Put(name, incoming) => match incoming.held() {
+            Some(held) if later => index.put_later(name, held),
             Some(held) => index.apply_put(name, held),
             None => Err(AllocError),
         },

@@ -1,5 +1,6 @@
 -- How the sets of an index follow its documents.
-use Rattle.std.specs.Prelude.{◌≡◌, ℕ, ◌<◌, not, false, List, All, Option, Some, None, map, filter}
+use Rattle.std.specs.Prelude.{◌≡◌, ℕ, ◌<◌, not, true, false, ◌&&◌, ◌==◌, Bool, nat_lt, List, All, Option, Some, None, map, filter}
+use Rattle.std.specs.List.{list_any}
 use Rattle.query.specs.Trigrams.{TrigramSet, trigrams_of_body}
 use Rattle.posting.specs.ListValue.{has, HasRoom}
 use Rattle.posting.specs.Postings.{holds, IsPrepared, IsAbsent, AllDiffer}
@@ -31,8 +32,18 @@ trigrams_shown (Some d) trigram = trigrams_of_body d.1 trigram
 abbrev pub trigrams_at : List Document → ℕ → TrigramSet
 trigrams_at documents number = trigrams_shown (document_at number documents)
 
+-- whether no document with this number waits to be put into the sets of its trigrams
+abbrev pub is_whole : Option ℕ → ℕ → Bool
+is_whole None number = true
+is_whole (Some first) number = nat_lt number first
+
 -- The live list has the numbers of the documents, and the set of a trigram those of the documents whose
--- body has it.
+-- body has it, but perhaps for documents that wait.
 pub record AreSetsOf (documents : List Document) (sets : Sets) : Type 0 where
   pub live : sets.live.members ≡ map (λ d. d.number) documents
-  pub postings : (trigram number : ℕ) → holds sets.postings trigram number ≡ trigrams_at documents number trigram
+  pub postings : (trigram number : ℕ) → is_whole sets.waiting number ≡ true → holds sets.postings trigram number ≡ trigrams_at documents number trigram
+  pub few : (trigram number : ℕ) → holds sets.postings trigram number ≡ true → trigrams_at documents number trigram ≡ true
+
+-- whether a document that waits has the number and the trigram
+abbrev pub is_waiting : ℕ → List Document → ℕ → ℕ → Bool
+is_waiting first documents trigram number = list_any (λ d. not (nat_lt d.number first) && (trigrams_of_body d.body trigram && d.number == number)) documents

@@ -126,4 +126,4 @@ pub record Widens (old new : ℕ → NumberSet) : Type 0 where
 
 -- The room for more lists than this can be given back.
 abbrev pub few_lists : ℕ
-few_lists = 4096
+few_lists = 512

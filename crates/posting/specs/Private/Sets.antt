@@ -1,7 +1,7 @@
 -- Where the set of a trigram stands.
 use Rattle.std.specs.Prelude.{ℕ, List, [], ◌∷◌}
-use Rattle.posting.specs.declared.postings.Set.{Set}
-use Rattle.posting.specs.declared.postings.Set.TheVariants as set
+use Rattle.posting.specs.declared.part.Set.{Set}
+use Rattle.posting.specs.declared.part.Set.TheVariants as set
 
 -- the numbers of the set
 abbrev pub members_of : Set → List ℕ

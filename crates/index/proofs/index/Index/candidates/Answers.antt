@@ -1,4 +1,4 @@
-use Rattle.std.proofs.Common.{◌≡◌, map, ◌∙◌, ap}
+use Rattle.std.proofs.Common.{◌≡◌, map, sym, ◌∙◌, ap}
 use Rattle.std.specs.Prelude.{filter}
 use Rattle.std.proofs.lemmas.Result.{IfOk-weaker}
 use Rattle.query.specs.Query.{formula_of, is_met}
@@ -9,8 +9,8 @@ use Rattle.index.proofs.IndexLemmas.{numbered}
 use Rattle.index.proofs.OrderLemmas.{candidates_are}
 use Rattle.index.proofs.index.Index.candidates.Goals as goal
 
-pub returns : goal.returns
-returns c =
+pub returns-in-None : goal.returns-in-None
+returns-in-None c =
     let formula = formula_of c.args.query.now in
     let store = c.self.inside.store in
     let ds = stored store in
@@ -19,5 +19,5 @@ returns c =
     IfOk-weaker c.select.result
     (λ chosen. chosen.members ≡ filter (λ n. is_met formula (trigrams_with store.sets.postings n)) store.sets.live.members)
     (λ chosen. chosen.members ≡ map (λ d. d.number) (filter (meets formula) c.args.self.now.documents))
-    (λ chosen e. e ∙ (candidates_are ds (numbered c.self.inside.version ds is.is_state) store.sets formula is.kept.sets ∙ shown))
+    (λ chosen e. e ∙ (candidates_are ds (numbered c.self.inside.version ds is.is_state) store.sets formula is.kept.sets (sym c.in-None.is) ∙ shown))
     c.select.ensures

@@ -1,4 +1,5 @@
-use Rattle.std.proofs.Common.{sym, ap, subst, arith, length}
+use Rattle.std.proofs.Common.{sym, ap, subst, arith, length, ◌∙◌}
+use Rattle.std.proofs.lemmas.Bool.{false≢true}
 use Rattle.index.specs.Documents.{document_at}
 use Rattle.index.specs.State.{body_bytes}
 use Rattle.index.specs.Private.Slots.{documents_in, RiseTo, FewAreEmpty}
@@ -17,7 +18,11 @@ returns-clause-store c = record {
   few = subst FewAreEmpty (sym c.new.ensures.items) (omega arith);
   sets =
       subst (λ xs. AreSetsOf (documents_in xs) c.new-2.result) (sym c.new.ensures.items)
-      (record { live = c.new-2.ensures.live; postings = c.new-2.ensures.postings });
+      (record {
+        live = c.new-2.ensures.live;
+        postings = λ t n whole. c.new-2.ensures.postings t n;
+        few = λ t n held. absurd (false≢true (sym (c.new-2.ensures.postings t n) ∙ held));
+      });
   counted = ap (λ xs. length (documents_in xs)) (sym c.new.ensures.items);
   bytes = ap (λ xs. body_bytes (documents_in xs)) (sym c.new.ensures.items);
 }

@@ -53,7 +53,7 @@ returns-clause-store c =
       sets =
           subst (λ ds. AreSetsOf ds c.put_in.new.self) (sym documents)
           (AreSetsOf-put (stored old) c.args.number c.args.occupant.name c.args.occupant.held c.trigrams.result.now old.sets c.put_in.new.self
-          kept.sets fresh c.trigrams.ensures.trigrams c.put_in.ensures.live c.put_in.ensures.postings);
+          kept.sets fresh c.trigrams.ensures.trigrams c.put_in.ensures.live c.put_in.ensures.waiting c.put_in.ensures.postings);
       counted = omega (arith, more_documents, kept.counted);
       bytes = omega (arith, size, bytes, kept.bytes);
     }

@@ -8,7 +8,7 @@ use Rattle.index.specs.State.{body_bytes}
 use Rattle.index.specs.Private.Slots.{documents_in, RiseTo, FewAreEmpty, with_body_at}
 use Rattle.index.specs.Private.Sets.{AreSetsOf}
 use Rattle.index.specs.Private.Store.{stored}
-use Rattle.index.proofs.StoredLemmas.{Numbered-stored, AreSetsOf-replace, body_bytes-replaced, RiseTo-same}
+use Rattle.index.proofs.StoredLemmas.{Numbered-stored, AreSetsOf-replace, fresh_are_absent, body_bytes-replaced, RiseTo-same}
 use Rattle.index.proofs.store.Store.replace.Goals as goal
 
 -- a body that was found is that of a document
@@ -20,6 +20,11 @@ found_body (Some d) body e = let same : body ≡ d.1 = cc in (d.0, ap (λ b. Som
 not_lost : (found : Option (List ℕ × List ℕ)) → None ≡ option_map (λ d. d.1) found → IsSome found → ⊥
 not_lost None e there = false≢true there
 not_lost (Some d) e there = cc
+
+pub replace-requires-clause-absent : goal.replace-requires-clause-absent
+replace-requires-clause-absent c =
+    let old = c.args.self.now in
+    fresh_are_absent (stored old) c.args.number c.args.held c.args.change.now.fresh old.sets c.requires.store.1.sets c.requires.room.fresh
 
 pub overflow_sub-self : goal.overflow_sub-self
 overflow_sub-self c =
@@ -61,7 +66,7 @@ returns-in-Some-clause-store c = λ last kept.
       sets =
           subst (λ ds. AreSetsOf ds c.replace.new.self) (sym (ap documents_in moved ∙ documents))
           (AreSetsOf-replace (stored old) c.args.number at.0 c.in-Some.old c.args.held c.args.change.now.fresh c.args.change.now.gone old.sets
-          c.replace.new.self kept.sets at.1 c.requires.room.fresh c.requires.room.gone c.replace.ensures.live c.replace.ensures.postings);
+          c.replace.new.self kept.sets at.1 c.requires.room.fresh c.requires.room.gone c.replace.ensures.live c.replace.ensures.waiting c.replace.ensures.postings);
       counted = omega (arith, ap (λ xs. length (documents_in xs)) moved, documents_same, kept.counted);
       bytes = omega (arith, bytes, left, new_size, old_size, kept.bytes);
     }

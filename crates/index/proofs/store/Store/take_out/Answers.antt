@@ -38,7 +38,7 @@ returns-in-Some-clause-store c = λ last kept.
     let left : body_bytes (documents_in c.give_back.new.slots.items) ≡ body_bytes (without_number c.args.number (stored old)) = ap body_bytes documents in
     let sets =
     AreSetsOf-take (stored old) c.args.number c.in-Some.occupant.name c.in-Some.occupant.held c.trigrams.result.now old.sets
-    c.take_out.new.self kept.sets at c.trigrams.ensures.trigrams c.take_out.ensures.live c.take_out.ensures.postings in
+    c.take_out.new.self kept.sets at c.trigrams.ensures.trigrams c.take_out.ensures.live c.take_out.ensures.waiting c.take_out.ensures.postings in
     let fewer = length-without c.args.number (stored old) c.in-Some.occupant.name c.in-Some.occupant.held
     (Numbered-stored last old.slots.items kept.slots) at in
     let taken : length (documents_in c.take.new.slots.items) ≡ length (without_number c.args.number (stored old)) =

@@ -1,12 +1,23 @@
-use Rattle.posting.proofs.Widening.{members-given_back, limits-given_back}
+use Rattle.std.proofs.Common.{◌≡◌, ◌<◌, ◌≤◌, length, refl, ◌∙◌, rules}
+use Rattle.std.proofs.lemmas.List.{length-set}
+use Rattle.posting.specs.Postings.{slot_limit}
+use Rattle.posting.specs.Private.Parts.{whole_of}
+use Rattle.posting.proofs.PartLemmas.{all_relate}
 use Rattle.posting.proofs.postings.Postings.give_back.Goals as goal
 
-pub returns-clause-members : goal.returns-clause-members
-returns-clause-members c =
-    rw (← c.self.view_is, c.give_back.ensures.lists)
-    (members-given_back c.self.inside.pages c.give_back-2.new.self c.self.inside.lists.items c.give_back-2.ensures)
-
-pub returns-clause-limits : goal.returns-clause-limits
-returns-clause-limits c =
-    rw (← c.self.view_is, c.give_back.ensures.lists)
-    (limits-given_back c.self.inside.pages c.give_back-2.new.self c.self.inside.lists.items c.give_back-2.ensures)
+pub loop-number-preserved : goal.loop-number-preserved
+loop-number-preserved c =
+    let parts = c.loop-number.self-inside.parts in
+    let inside : c.loop-number.number < length parts = search rules in
+    record {
+      count = length-set parts c.loop-number.number c.give_back.new.self ∙ c.loop-number.invariant.count;
+      members =
+          λ t.
+          all_relate (λ a b. b.members ≡ a.members) parts (whole_of parts) c.loop-number.number c.index-self-number.result c.give_back.new.self refl
+          inside c.index-self-number.is (λ s. refl) c.give_back.ensures.members t
+          ∙ c.loop-number.invariant.members t;
+      limits =
+          λ t low.
+          all_relate (λ a b. a.limit ≤ slot_limit → b.limit ≤ slot_limit) parts (whole_of parts) c.loop-number.number c.index-self-number.result
+          c.give_back.new.self refl inside c.index-self-number.is (λ s le. le) c.give_back.ensures.limits t (c.loop-number.invariant.limits t low);
+    }

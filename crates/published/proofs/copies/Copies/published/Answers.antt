@@ -26,10 +26,12 @@ show_as-requires g c =
     let at : c.deref_mut.result.now ≡ i.both.desk.spare.value = search rules in
     let done : IsAllDone up.new.self = search rules in
     let step = up.ensures.step shown (subst (λ s. InStep shown s c.add.new.self) (sym at) (c.add.ensures.step shown i.both.desk.spare.value i.in_step)) in
-    let is : up.new.spare ≡ fold operated shown (pending ++ Stamp c.args.front.now ∷ []) =
-    all_in shown up.new.spare up.new.self done step
-    ∙ ap (fold operated shown) (up.ensures.pending ∙ (c.in_default.ensures.ok ∙ ap (λ f. pending ++ Stamp f ∷ []) c.again.ensures)) in
-    exchange_turns shown up.new.spare pending c.args.front.now is _ _ _ same (c.requires.opening ∙ sym (ap (λ s. s.shown.opening) c.self.view_is))
+    let filled : c.fill-filled.new.self ≡ up.new.spare = search rules in
+    let is : c.fill-filled.new.self ≡ fold operated shown (pending ++ Stamp c.args.front.now ∷ []) =
+    filled
+    ∙ (all_in shown up.new.spare up.new.self done step
+    ∙ ap (fold operated shown) (up.ensures.pending ∙ (c.in_default.ensures.ok ∙ ap (λ f. pending ++ Stamp f ∷ []) c.again.ensures))) in
+    exchange_turns shown c.fill-filled.new.self pending c.args.front.now is _ _ _ same (c.requires.opening ∙ sym (ap (λ s. s.shown.opening) c.self.view_is))
     (c.requires.all ∙ sym (ap (λ s. s.accepted) c.self.view_is))
 
 pub invariant_of-result-2 : goal.invariant_of-result-2
