@@ -9,9 +9,9 @@ import sys
 
 from built import PROGRAM, TOP, need_program
 from counted import Counted
-from terminal import calls, faults, forms, screen
+from terminal import calls, faults, forms, past, screen
 
-PARTS = {"calls": calls.check, "forms": forms.check, "faults": faults.check, "screen": screen.check}
+PARTS = {"calls": calls.check, "forms": forms.check, "faults": faults.check, "past": past.check, "screen": screen.check}
 
 
 def main():

@@ -31,7 +31,7 @@ DOCUMENTS = {
     "two": {"src/main.c": b"int main(int count)\n", **slow_documents(), "binary": b"\0"},
 }
 # What lets a request see all repositories where the server has a header for filters, which the tests call so.
-EVERYTHING = {"X-Filters": json.dumps({name: {} for name in DOCUMENTS})}
+EVERYTHING = {"X-Filters": json.dumps({name: {} for name in (*DOCUMENTS, "made", "second")})}
 
 
 class Server:
@@ -41,11 +41,16 @@ class Server:
         self.headers: dict[str, str] = {}
         self.address = f"http://127.0.0.1:{port}"
         self.top = top
-        self._pid = pid
+        self.pid = pid
+
+    @property
+    def log(self) -> str:
+        """What it has said."""
+        return (self.top / "log").read_text()
 
     def programs(self) -> list[int]:
         """The processes of the sessions, in the order of the repositories."""
-        tasks = pathlib.Path(f"/proc/{self._pid}/task").iterdir()
+        tasks = pathlib.Path(f"/proc/{self.pid}/task").iterdir()
         return sorted(int(pid) for task in tasks for pid in (task / "children").read_text().split())
 
     def get(self, path: str, headers: dict[str, str] | None = None) -> tuple[int, bytes, dict[str, str]]:
@@ -75,6 +80,14 @@ class Server:
         return [(row["repository"], row["name"], hit["line"], "".join(hit["parts"])) for row, hit in hits]
 
 
+def free_port() -> int:
+    """A port that nobody listens at."""
+    with socket.socket() as free:
+        free.bind(("127.0.0.1", 0))
+        port: int = free.getsockname()[1]
+        return port
+
+
 @contextlib.contextmanager
 def serving(*options: str) -> Iterator[Server]:
     """A server of two repositories."""
@@ -85,34 +98,39 @@ def serving(*options: str) -> Iterator[Server]:
                 file = top / repository / os.fsdecode(path)
                 file.parent.mkdir(parents=True, exist_ok=True)
                 file.write_bytes(body)
-        with socket.socket() as free:
-            free.bind(("127.0.0.1", 0))
-            port = free.getsockname()[1]
-        words = ["--port", str(port), "--look", "0.2", *options, str(top / "one"), str(top / "two")]
-        environment = {**os.environ, "PYTHONPATH": str(PACKAGE)}
-        with open(top / "log", "wb") as log:
-            process = subprocess.Popen([sys.executable, "-B", "-m", "tsearch.web", *words], env=environment, stdout=log, stderr=log)
-        try:
-            server = Server(port, top, process.pid)
-
-            def is_loaded() -> bool:
-                if process.poll() is not None:
-                    raise AssertionError((top / "log").read_text())
-                try:
-                    seen = json.loads(server.get("/api/status", EVERYTHING)[1])["repositories"]
-                    return len(seen) == len(DOCUMENTS) and all(one["loaded"] for one in seen)
-                except (urllib.error.URLError, ConnectionError):
-                    time.sleep(0.05)
-                    return False
-
-            until(is_loaded)
+        with serving_in(top, *options, str(top / "one"), str(top / "two"), count=len(DOCUMENTS)) as server:
             yield server
-            log_text = (top / "log").read_text()
-            assert "Traceback" not in log_text, log_text
-        finally:
-            process.terminate()
+
+
+@contextlib.contextmanager
+def serving_in(top: pathlib.Path, *words: str, count: int) -> Iterator[Server]:
+    """A server with these words, which serves so many repositories, and has its log in a folder."""
+    port = free_port()
+    words = ("--port", str(port), "--look", "0.2", *words)
+    environment = {**os.environ, "PYTHONPATH": str(PACKAGE)}
+    with open(top / "log", "wb") as log:
+        process = subprocess.Popen([sys.executable, "-B", "-m", "tsearch.web", *words], env=environment, stdout=log, stderr=log)
+    try:
+        server = Server(port, top, process.pid)
+
+        def is_loaded() -> bool:
+            if process.poll() is not None:
+                raise AssertionError((top / "log").read_text())
             try:
-                process.wait(SECONDS)
-            except subprocess.TimeoutExpired:
-                process.kill()
-                process.wait()
+                seen = json.loads(server.get("/api/status", EVERYTHING)[1])["repositories"]
+                return len(seen) == count and all(one["loaded"] for one in seen)
+            except (urllib.error.URLError, ConnectionError):
+                time.sleep(0.05)
+                return False
+
+        until(is_loaded)
+        yield server
+        log_text = (top / "log").read_text()
+        assert "Traceback" not in log_text, log_text
+    finally:
+        process.terminate()
+        try:
+            process.wait(SECONDS)
+        except subprocess.TimeoutExpired:
+            process.kill()
+            process.wait()

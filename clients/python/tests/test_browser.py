@@ -1,88 +1,20 @@
 """The page in a browser: typing, results, refusals, files, and hostile names and bodies."""
 
-import importlib.util
 import os
-import shutil
 import signal
-import tempfile
 import time
 import unittest
 
-from helpers import SECONDS, stopped
+from browsing import Browsing, reason_to_skip
+from helpers import stopped
 from serving import serving
-
-CHROMIUM, DRIVER = shutil.which("chromium"), shutil.which("chromedriver")
-# No service of the browser's makers is called.
-ARGUMENTS = [
-    "--headless=new", "--no-sandbox", "--disable-dev-shm-usage", "--disable-background-networking", "--disable-component-update",
-    "--disable-sync", "--no-first-run", "--disable-extensions", "--host-resolver-rules=MAP * ~NOTFOUND, EXCLUDE 127.0.0.1",
-]  # fmt: skip
-
-
-def reason_to_skip() -> str:
-    missing = [f"the library {library}" for library in ("aiohttp", "selenium") if not importlib.util.find_spec(library)]
-    missing += ["chromium"] * (CHROMIUM is None) + ["chromedriver (chromium-driver)"] * (DRIVER is None)
-    return f"missing: {', '.join(missing)}" if missing else ""
 
 
 @unittest.skipIf(reason_to_skip(), reason_to_skip())
-class Page(unittest.TestCase):
+class Page(Browsing):
     @classmethod
-    def setUpClass(cls) -> None:
-        from selenium import webdriver
-        from selenium.webdriver.chrome.service import Service
-
-        cls.server = cls.enterClassContext(serving("--search-ms", "2000", "--most-lines", "100"))
-        options = webdriver.ChromeOptions()
-        options.binary_location = CHROMIUM
-        for argument in [*ARGUMENTS, f"--user-data-dir={cls.enterClassContext(tempfile.TemporaryDirectory(ignore_cleanup_errors=True))}"]:
-            options.add_argument(argument)
-        options.set_capability("goog:loggingPrefs", {"browser": "ALL"})
-        cls.browser = webdriver.Chrome(service=Service(DRIVER), options=options)
-        cls.addClassCleanup(cls.browser.quit)
-        cls.browser.set_page_load_timeout(SECONDS)
-        cls.browser.set_window_size(1_200, 800)
-
-    def setUp(self) -> None:
-        self.browser.get_log("browser")
-        self.open("/")
-
-    def open(self, path: str) -> None:
-        """Opens the page, and waits until it takes what is typed."""
-        self.browser.get(self.server.address + path)
-        self.wait(lambda: self.done() is not None)
-
-    def wait(self, holds) -> None:
-        from selenium.webdriver.support.ui import WebDriverWait
-
-        WebDriverWait(self.browser, SECONDS, 0.02).until(lambda _: holds())
-
-    def all(self, selector: str) -> list:
-        return self.browser.find_elements("css selector", selector)
-
-    def one(self, selector: str):
-        return self.browser.find_element("css selector", selector)
-
-    def type(self, text: str, selector: str = "#pattern", pause: float = 0) -> None:
-        """Types into a field, and waits for the answer to what stands in the pattern then."""
-        for letter in text:
-            self.one(selector).send_keys(letter)
-            time.sleep(pause)
-        pattern = self.one("#pattern").get_attribute("value")
-        self.wait(lambda: self.done() == pattern)
-
-    def done(self) -> str | None:
-        return self.one("body").get_attribute("data-done")
-
-    def shown(self) -> list[tuple[str, str, str]]:
-        """The hits on the page: name, number and text."""
-        script = """return [...document.querySelectorAll('#results section')].flatMap(section =>
-            [...section.querySelectorAll('.row:not(.around)')].map(row => [section.querySelector('.name').textContent,
-            row.querySelector('.number').textContent, row.querySelector('.text').textContent]))"""
-        return [tuple(row) for row in self.browser.execute_script(script)]
-
-    def marks(self) -> list[str]:
-        return [mark.text for mark in self.all("#results mark")]
+    def serve(cls):
+        return cls.enterClassContext(serving("--search-ms", "2000", "--most-lines", "100"))
 
     def test_typing(self) -> None:
         """A search for each letter, of which the last one stands, however quickly they come."""
@@ -134,7 +66,7 @@ class Page(unittest.TestCase):
         self.type("many lines 1?7$")
 
         def rows() -> list[list]:
-            script = """return [...document.querySelectorAll('#results section > :not(h2)')].map(row =>
+            script = """return [...document.querySelectorAll('#results section > :not(h3)')].map(row =>
                 row.className === 'gap' ? ['gap'] : [row.querySelector('.text').textContent, row.classList.contains('around')])"""
             return self.browser.execute_script(script)
 
@@ -173,7 +105,7 @@ class Page(unittest.TestCase):
         self.one("#results .row:not(.around)").click()
         self.wait(lambda: self.one("#file").is_displayed() and self.all("#file-lines .row"))
         self.assertEqual([row.text for row in self.all("#file-lines .text")], ["int call(int x)", "{", "    return x + 1; // <b>caller</b>", "}"])
-        self.assertEqual(self.one("#file-lines .target").text, "3")
+        self.assertEqual(self.one("#file-lines .target .number").text, "3")
         self.assertEqual(self.one("#file-lines mark").text, "return x")
         # as it was when it was found
         path = self.server.top / "one/src/util.c"
@@ -203,7 +135,8 @@ class Page(unittest.TestCase):
     def test_many_and_long_lines(self) -> None:
         self.type("many")
         self.assertEqual(len(self.shown()), 100)
-        self.assertIn("the first 100 lines in 1 file, and there are more", self.one("#status").text)
+        # all of them are counted once nothing is typed
+        self.wait(lambda: "the first 100 of 2,000 lines in 1 file, in " in self.one("#status").text)
         self.one("#pattern").clear()
         self.type("needle")
         self.assertEqual(self.marks(), ["needle"])

@@ -36,7 +36,7 @@ class Web(unittest.TestCase):
         self.assertEqual(hits("int main", name="^src/", repository="two"), mains[1:])
         self.assertEqual(hits("int main", repository=["one", "two"]), mains)
         self.assertEqual(hits("int main", repository="none"), [])
-        self.assertEqual(hits("a|"), hits(""))
+        self.assertEqual(hits("a|", name="src"), hits("", name="src"))
 
     def test_marks_and_totals(self) -> None:
         rows = self.server.find("main|count", repository="two")
@@ -78,7 +78,7 @@ class Web(unittest.TestCase):
         self.assertEqual(find("a", name="x[b"), [{"refused": "bracket not closed", "offset": 1, "in": "name"}])
         self.assertEqual(find("a\nremove src/main.c\npublish"), [{"refused": "bad byte", "offset": 1, "in": "pattern"}])
         self.assertEqual(find("a", name="b\npublish")[0]["in"], "name")
-        self.assertEqual(find("a", **{"name": ["b", "c"], "not": ["b", "c publish"]})[0]["in"], "not")
+        self.assertEqual(find("a", **{"name": ["b", "c"], "not": ["b", "c publish\n"]})[0]["in"], "not")
         self.assertEqual(find("a", name=["b"] * 17), [{"refused": "option -n over 16 times"}])
         self.assertEqual(find("a\0")[0]["refused"], "bad byte")
         self.assertEqual(find("a" * 2_000)[0]["refused"], "pattern too long")
@@ -202,7 +202,7 @@ class Web(unittest.TestCase):
             if line.startswith("# TYPE"):
                 kinds[line.split()[2]] = line.split()[3]
             elif not line.startswith("#"):
-                found = re.fullmatch(r'(\w+)(\{\w+="[^"]*"(,\w+="[^"]*")*\})? [0-9.e+-]+', line)
+                found = re.fullmatch(r'(\w+?)(?:_bucket|_sum|_count)?(\{\w+="[^"]*"(,\w+="[^"]*")*\})? [0-9.e+-]+', line)
                 self.assertIsNotNone(found, line)
                 self.assertIn(found[1], kinds)
         self.assertEqual(self.metric("tsearch_documents", repository="two"), 102)
@@ -315,7 +315,11 @@ class Changes(unittest.TestCase):
         with serving("--search-ms", "1") as server:
             pathlib.Path(server.top, "two/large").write_bytes(b"a few words of a long file, and so on\n" * 25_000)
             until(lambda: server.get("/metrics")[1].count(b'tsearch_documents{repository="two"} 103'))
-            until(lambda: server.find("a.*b.*c.*d.*e.*f", search_ms="99999") == [{"refused": "too slow", "milliseconds": 1}])
+            slow = "a.*b.*c.*d.*e.*f"
+            until(lambda: server.find(slow, search_ms="99999", repository="two") == [{"refused": "too slow", "milliseconds": 1}])
+            # it is named beside the answer of the other
+            fault = {"repository": "two", "fault": "too slow", "milliseconds": 1}
+            until(lambda: any(fault in rows and rows[-1].get("missing") == ["two"] for rows in [server.find(slow)]))
 
 
 if __name__ == "__main__":

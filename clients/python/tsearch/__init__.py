@@ -1,7 +1,8 @@
 """Clients of tsearch, a live trigram code search.
 
 `Session` is a program that keeps documents and answers searches, shared by any number of threads; `tsearch.aio.Session` is the same
-for asyncio. `Folder` keeps the files of a folder in a session. `tsearch.tgrep` is the command `tgrep` of the
+for asyncio. `Folder` keeps the files of a folder in a session, `tsearch.git.Revisions` branches of a git repository, and
+`tsearch.review.Review` the files of a patch. `tsearch.tgrep` is the command `tgrep` of the
 terminal, and `python3 -m tsearch.web` serves a page. README.md in this package's folder shows each.
 """
 

@@ -13,15 +13,19 @@ from typing import TYPE_CHECKING, Any, Unpack
 from .answers import Answer, Published, Status, joined
 from .core import Core, Sent, SentSearch, ended_by, ended_with, status_of, value_of
 from .errors import Ended, Error
-from .folder import BATCH, Files, Progress, Refreshed, Step
+from .folder import BATCH, Files, Progress, Refreshed, Source, Step
+from .git import Objects, Store
+from .names import to_bytes
+from .paths import check
 from .program import MOST_BODY, MOST_COMMANDS, MOST_NAME, TO_END, command, kill_group
 from .query import Options, Query
+from .review import Found, Patch, cut, prefix_of_its_own, query_in, refused_in, wanted_by
 from .session import MOST_OPEN, MOST_TRIES
 
 if TYPE_CHECKING:
     from .cluster import Cluster
 
-__all__ = ["Change", "Changes", "Folder", "Search", "Session"]
+__all__ = ["Change", "Changes", "Folder", "Review", "Revisions", "Search", "Session"]
 
 _BLOCK = 1 << 18
 _MESSAGE = 4_096
@@ -294,6 +298,7 @@ class Session(Changes):
         super().__init__(connection)
         self._start = start
         self._restarting = asyncio.Lock()
+        self.feeding = asyncio.Lock()
         self._is_closed = False
 
     @classmethod
@@ -380,7 +385,10 @@ class Session(Changes):
     async def find(self, pattern: str | bytes, **options: Unpack[Options]) -> Answer:
         """The lines that contain a match of a pattern, in the documents of the last publish or a later one. The options and the
         errors are those of `tsearch.Session.find`, except for `timeout`."""
-        query = Query.of(pattern, **options)
+        return await self.find_query(Query.of(pattern, **options))
+
+    async def find_query(self, query: Query) -> Answer:
+        """Does what `find` does, for a query that is made."""
         for _ in range(MOST_TRIES):
             searches: list[Search] = []
             try:
@@ -473,55 +481,35 @@ async def _published(connection: _Connection) -> Published:
     return published
 
 
-class Folder:
-    """Keeps the text files of a folder in a session or a cluster, as `tsearch.Folder` does. A thread reads the files.
-
-    before_change: is awaited with the name of each document that is there and is about to be replaced or removed.
-    follows: whether symbolic links are followed.
-    is_apart: whether the rules of the folders above it do not hold.
-    """
+class Kept:
+    """Keeps what a source has in a session or a cluster, as `tsearch.folder.Kept` does. A thread reads the source."""
 
     def __init__(
         self,
         session: Session | Cluster,
-        root: str | bytes | os.PathLike[str] | os.PathLike[bytes] = ".",
-        *,
-        prefix: str | bytes = b"",
-        git: bool | None = None,
+        source: Source,
         progress: Progress | None = None,
         before_change: Callable[[bytes], Awaitable[object]] | None = None,
-        follows: bool = False,
-        is_apart: bool = False,
-        loads: bool | None = None,
     ) -> None:
         self._session = session
-        can_load = isinstance(session, Session) and session.pid is not None
-        self._files = Files(root, prefix, git, follows, is_apart, can_load if loads is None else loads)
+        self._source = source
         self._progress = progress or (lambda done, of: None)
         self._before_change = before_change
         self._lock = asyncio.Lock()
         self._is_pending = False
 
     @property
-    def root(self) -> bytes:
-        """The absolute path of the folder."""
-        return self._files.root
-
-    @property
     def left_out(self) -> dict[bytes, str]:
-        """What is not in the session now, by its path from the top of the folder, with the reason."""
-        return dict(self._files.left_out)
+        """What is not in the session now, by its name without the prefix, with the reason."""
+        return dict(self._source.left_out)
 
-    @property
-    def files(self) -> Files:
-        """What the session has of the folder."""
-        return self._files
+    async def refresh(self) -> Refreshed:
+        """Looks at the source, sends what has changed, and publishes it, as `tsearch.Folder.refresh` does, with its errors."""
+        return await self._refresh(self._source.steps)
 
-    async def refresh(self, changed: set[bytes] | None = None) -> Refreshed:
-        """Looks through the folder, sends what has changed, and publishes it, as `tsearch.Folder.refresh` does, with its errors. With
-        `changed` it looks at these paths alone: no others have changed since the last look."""
-        async with self._lock:
-            put, removed = await self._send(self._session, self._before_change, changed)
+    async def _refresh(self, look: Callable[[], Iterator[Step]]) -> Refreshed:
+        async with self._lock, self._session.feeding:
+            put, removed = await self._send(self._session, self._before_change, look())
             published = None
             if put or removed or self._is_pending:
                 published = await self._session.publish()
@@ -529,10 +517,10 @@ class Folder:
                 published = await self._remove(published) or published
             else:
                 await self._session.status()  # it may have ended
-            return Refreshed(put, removed, self._files.take_news(), published)
+            return Refreshed(put, removed, self._source.take_news(), published)
 
     async def restart(self) -> Published | None:
-        """Starts the program again if it has ended, and sends all files. For a session with this folder alone. None if the program
+        """Starts the program again if it has ended, and sends all documents. For a session with this source alone. None if the program
         runs. The errors are those of `Session.restart`."""
         async with self._lock:
             published = await self._session.restart(self._feed)
@@ -542,20 +530,24 @@ class Folder:
             return published
 
     async def find(self, pattern: str | bytes, **options: Unpack[Options]) -> Answer:
-        """A search of the session, with the options and the errors of `Session.find`, in the documents of this folder as they were last
+        """A search of the session, with the options and the errors of `Session.find`, in the documents of this source as they were last
         published, and in whatever else is in the session."""
         return await self._session.find(pattern, **options)
 
+    async def feed(self, changes: Changes) -> None:
+        """Sends all documents to a new program, for `Session.restart`. A `refresh` has to follow, for what that program refuses."""
+        async with self._lock:
+            await self._feed(changes)
+
     async def _feed(self, changes: Changes) -> None:
-        self._files.forget()
-        await self._send(changes, None, None)
+        self._source.forget()
+        await self._send(changes, None, self._source.steps())
+        self._is_pending = True
 
     async def _send(
-        self, changes: Changes | Cluster, before_change: Callable[[bytes], Awaitable[object]] | None, changed: set[bytes] | None
+        self, changes: Changes | Cluster, before_change: Callable[[bytes], Awaitable[object]] | None, steps: Iterator[Step]
     ) -> tuple[int, int]:
         put = removed = 0
-        files = self._files
-        steps = files.steps() if changed is None else files.steps_of(changed)
         loaded: Awaitable[object] | None = None
         while batch := await asyncio.to_thread(_some_of, steps):
             for name, body, done, of, path in batch:
@@ -567,7 +559,7 @@ class Folder:
                     loaded = await changes.mark()
                 elif not loaded:
                     self._progress(done, of)
-                if before_change and not files.is_new(name):
+                if before_change and not self._source.is_new(name):
                     await before_change(name)
                 if path is not None:
                     assert isinstance(changes, Changes)
@@ -588,10 +580,145 @@ class Folder:
 
     async def _remove(self, published: Published) -> Published | None:
         """Removes documents whose new bodies were refused, so that the old ones are not found."""
-        stale = self._files.take_refusals(published.refused)
+        stale = self._source.take_refusals(published.refused)
         for name in stale:
             await self._session.remove(name)
         return await self._session.publish() if stale else None
+
+
+class Folder(Kept):
+    """Keeps the text files of a folder in a session or a cluster, as `tsearch.Folder` does.
+
+    before_change: is awaited with the name of each document that is there and is about to be replaced or removed.
+    follows: whether symbolic links are followed.
+    is_apart: whether the rules of the folders above it do not hold.
+    """
+
+    def __init__(
+        self,
+        session: Session | Cluster,
+        root: str | bytes | os.PathLike[str] | os.PathLike[bytes] = ".",
+        *,
+        prefix: str | bytes = b"",
+        git: bool | None = None,
+        progress: Progress | None = None,
+        before_change: Callable[[bytes], Awaitable[object]] | None = None,
+        follows: bool = False,
+        is_apart: bool = False,
+        loads: bool | None = None,
+    ) -> None:
+        can_load = isinstance(session, Session) and session.pid is not None
+        self._files = Files(root, prefix, git, follows, is_apart, can_load if loads is None else loads)
+        super().__init__(session, self._files, progress, before_change)
+
+    @property
+    def root(self) -> bytes:
+        """The absolute path of the folder."""
+        return self._files.root
+
+    @property
+    def files(self) -> Files:
+        """What the session has of the folder."""
+        return self._files
+
+    async def refresh(self, changed: set[bytes] | None = None) -> Refreshed:
+        """Looks through the folder as `Kept.refresh` does. With `changed` it looks at these paths alone: no others have changed since the
+        last look."""
+        return await (super().refresh() if changed is None else self._refresh(lambda: self._files.steps_of(changed)))
+
+
+class Review:
+    """The files of a patch in a session or a cluster, as `tsearch.review.Review` has them."""
+
+    def __init__(self, session: Session | Cluster, patch: Patch, prefix: bytes) -> None:
+        self.patch = patch
+        self._session = session
+        self._prefix = prefix
+        self._held: set[bytes] = set()
+        # the last publish of its documents
+        self.published: Published | None = None
+
+    @classmethod
+    async def open(
+        cls,
+        session: Session | Cluster,
+        path: str | bytes | os.PathLike[str] | os.PathLike[bytes],
+        before: str,
+        after: str,
+        *,
+        whole: bool = False,
+        prefix: str | bytes | None = None,
+    ) -> Review:
+        """Puts the files of a patch, and returns once they are found. The arguments are those of `tsearch.review.Review`."""
+        patch = await asyncio.to_thread(lambda: Patch(Store(path), before, after, whole))
+        review = cls(session, patch, prefix_of_its_own() if prefix is None else to_bytes(prefix))
+        try:
+            await review._fill()
+        except BaseException:
+            with contextlib.suppress(Error):
+                await review.close()
+            raise
+        return review
+
+    async def _fill(self) -> None:
+        """Puts the documents. Copies of revisions that the session has would have their place here."""
+        documents = self.patch.documents()
+        async with self._session.feeding:
+            while batch := await asyncio.to_thread(lambda: list(itertools.islice(documents, BATCH))):
+                for name, body in batch:
+                    self._held.add(name)
+                    await self._session.put(self._prefix + name, body)
+            self.published = await self._session.publish()
+        self._held -= refused_in(self.patch, self._prefix, self.published.refused)
+
+    async def find(self, pattern: str | bytes, **options: Unpack[Options]) -> Found:
+        """The lines with a match, as `tsearch.review.Review.find` gives them, with its errors."""
+        asked = Query.of(pattern, **options)
+        if asked.names or asked.not_names:
+            await self._session.find_query(check(asked.names, asked.not_names))
+        answer = await self._session.find_query(query_in(self._prefix, asked))
+        while self.published is None or answer.life != self.published.life:
+            # the program was started again, without them
+            await self._fill()
+            answer = await self._session.find_query(query_in(self._prefix, asked))
+        files = await asyncio.to_thread(lambda: list(self.patch.files(answer, self._prefix)))
+        return Found(answer.version, *cut(wanted_by(asked, files), asked.limit))
+
+    async def close(self) -> None:
+        """Removes the documents. A second call does nothing."""
+        async with self._session.feeding:
+            held, self._held = self._held, set()
+            for name in held:
+                await self._session.remove(self._prefix + name)
+            if held:
+                await self._session.publish()
+
+    async def __aenter__(self) -> Review:
+        return self
+
+    async def __aexit__(self, kind: type[BaseException] | None, *_: object) -> None:
+        await self.close()
+
+
+class Revisions(Kept):
+    """Keeps revisions of a git repository in a session or a cluster, as `tsearch.git.Revisions` does."""
+
+    def __init__(
+        self,
+        session: Session | Cluster,
+        path: str | bytes | os.PathLike[str] | os.PathLike[bytes],
+        wanted: Sequence[str] = ("HEAD",),
+        *,
+        prefix: str | bytes = b"",
+        progress: Progress | None = None,
+    ) -> None:
+        self._objects = Objects(Store(path), wanted, prefix)
+        super().__init__(session, self._objects, progress)
+
+    @property
+    def objects(self) -> Objects:
+        """What the session has of the repository."""
+        return self._objects
 
 
 def _some_of(steps: Iterator[Step]) -> list[Step]:

@@ -155,10 +155,11 @@ class Answer:
         data = self.data if self.view is View.SPANS else self.spans_data
         if data is None:
             return itertools.repeat(None)
-        return (_spans_of(row.split(b":", 2)[1]) for row in data.split(b"\n")[:-1] for row in [row.partition(b"\0")[2]])
+        return (spans_of(row.split(b":", 2)[1]) for row in data.split(b"\n")[:-1] for row in [row.partition(b"\0")[2]])
 
 
-def _spans_of(text: bytes) -> tuple[tuple[int, int], ...]:
+def spans_of(text: bytes) -> tuple[tuple[int, int], ...]:
+    """The matches that `FROM-TO,FROM-TO` says, as `text[begin:end]`."""
     spans = (span.partition(b"-") for span in text.split(b",") if span)
     return tuple((int(first) - 1, int(last)) for first, _, last in spans)
 

@@ -406,6 +406,7 @@ class Cluster:
     def __init__(self, client: Client, shards: int, *, call_seconds: float = TO_CALL, **options: Any) -> None:
         self._version = 0
         self._open = 0
+        self.feeding = asyncio.Lock()
         self._lanes = [_Lane(number, client, call_seconds, options) for number in range(shards)]
 
     @property
@@ -465,7 +466,11 @@ class Cluster:
 
         A search whose task is cancelled is not cancelled in the programs if it is there by then: give `search_ms`.
         """
-        query, version = Query.of(pattern, **options), self._version
+        return await self.find_query(Query.of(pattern, **options), waits=waits)
+
+    async def find_query(self, query: Query, *, waits: bool = True) -> Answer:
+        """Does what `find` does, for a query that is made."""
+        version = self._version
         self._open += 1
         try:
             parts = query.parts()

@@ -9,7 +9,7 @@ import stat
 import threading
 import time
 from collections.abc import Callable, Iterable, Iterator
-from typing import NamedTuple, Unpack
+from typing import NamedTuple, Protocol, Unpack
 
 from . import names
 from .answers import Answer, Published
@@ -22,7 +22,7 @@ from .session import Changes, Session
 # What the program calls a file that can be no document, and what this package does.
 _CALLED = {"byte 0 in body": "binary", "cannot load": "cannot be read"}
 # In nanoseconds. A file that changes twice within a tick of the clock of its times may have the same ones both times.
-_TICK = 100_000_000
+TICK = 100_000_000
 # What a file can begin with that says how it is to be read.
 _MARKS = {codecs.BOM_UTF8: "", codecs.BOM_UTF16_LE: "utf-16-le", codecs.BOM_UTF16_BE: "utf-16-be"}
 # In bytes: by so many it is told whether a file is binary, before all of it is read; and a small one is taken for text without that.
@@ -65,8 +65,30 @@ class Refreshed(NamedTuple):
 Progress = Callable[[int, int], object]
 
 
+class Source(Protocol):
+    """What documents come from, and what a session has of it, as its client knows it. It sends nothing: `Kept` and `aio.Kept` send its
+    steps."""
+
+    left_out: dict[bytes, str]
+
+    def forget(self) -> None:
+        """A new program has nothing of it."""
+
+    def steps(self) -> Iterator[Step]:
+        """Looks at all of it, and gives what makes the session's documents those that it has, to be sent in this order."""
+
+    def take_refusals(self, refused: tuple[ChangeRefused, ...]) -> list[bytes]:
+        """Takes what a publish says was refused. The documents to remove: the session has an older body of each."""
+
+    def is_new(self, name: bytes) -> bool:
+        """Whether the document of a step is new to the session."""
+
+    def take_news(self) -> list[LeftOut]:
+        """What is left out and was not given before."""
+
+
 class Files:
-    """What a session has of a folder, as its client knows it. It sends nothing: the two kinds of folder send its steps.
+    """What a session has of a folder: a `Source`.
 
     Documents are named by a prefix and the path from the top of the folder.
     """
@@ -116,7 +138,7 @@ class Files:
 
     def _can_be_loaded(self, name: bytes, file: File, began: int) -> bool:
         """Whether the program can take the bytes of a file as they are, and the next change will show in its stamp."""
-        is_old = name not in self._recent and max(file.stamp.modified, file.stamp.changed) <= began - _TICK
+        is_old = name not in self._recent and max(file.stamp.modified, file.stamp.changed) <= began - TICK
         is_short = file.stamp.size <= MOST_BODY and len(names.quote(self.prefix + name)) <= MOST_NAME
         return is_old and is_short and _is_text(file.path) and _is_plain(_head_of(file))
 
@@ -179,7 +201,7 @@ class Files:
                 self._recent.pop(name, None)
                 if refusal.reason == "cannot load":
                     self._known.pop(name)  # it is tried again
-                self._leave_out(name, _CALLED.get(refusal.reason, refusal.reason))
+                self._leave_out(name, called(refusal.reason))
         self._new.clear()
         return stale
 
@@ -244,7 +266,7 @@ class Files:
             return
         self.left_out.pop(name, None)
         before, now = self._recent.pop(name, None), hashlib.blake2b(body, digest_size=16).digest()
-        if max(file.stamp.modified, file.stamp.changed) > began - _TICK:
+        if max(file.stamp.modified, file.stamp.changed) > began - TICK:
             self._recent[name] = now
         self._known[name] = file.stamp
         if before != now or name not in self.held:
@@ -257,6 +279,11 @@ class Files:
         if name in self.held:
             self._drop(name)
             yield None
+
+
+def called(reason: str) -> str:
+    """What this package calls the reason for which the program refuses a document."""
+    return _CALLED.get(reason, reason)
 
 
 def _is_text(path: bytes) -> bool:
@@ -319,6 +346,16 @@ def text_of(data: bytes) -> bytes:
     return decoder.decode(data[len(mark) :], True).encode() if decoder else data[len(mark) :] if mark else data
 
 
+def text_body(data: bytes) -> bytes | str:
+    """The text of the bytes of a file, or the reason why no document can have it."""
+    if len(data) > MOST_BODY:
+        return "body too long"
+    if _is_binary(data[:_HEAD]):
+        return "binary"
+    body = text_of(data)
+    return "body too long" if len(body) > MOST_BODY else "binary" if b"\0" in body else body
+
+
 def _body_of(file: File) -> bytes:
     """The text of a file. `ChangeRefused` if no document can have it."""
     if file.stamp.size > MOST_BODY:
@@ -332,106 +369,68 @@ def _body_of(file: File) -> bytes:
         if _is_binary(head):
             raise ChangeRefused("binary", file.path)
         # one that grows meanwhile is looked at again
-        body = text_of(head + opened.read(max(min(state.st_size, MOST_BODY) + 1 - len(head), 0)))
-    if len(body) > MOST_BODY:
-        raise ChangeRefused("body too long", file.path)
-    if b"\0" in body:
-        raise ChangeRefused("binary", file.path)
+        body = text_body(head + opened.read(max(min(state.st_size, MOST_BODY) + 1 - len(head), 0)))
+    if isinstance(body, str):
+        raise ChangeRefused(body, file.path)
     return body
 
 
-class Folder:
-    """Keeps the text files of a folder in a session.
+class Kept:
+    """Keeps what a source has in a session. Threads can share it; one at a time looks at the source."""
 
-        with tsearch.Session() as session:
-            folder = tsearch.Folder(session, "src")
-            folder.refresh()
-            print(folder.find("o w").hits())
-
-    The files are those that git tracks, and all that no .gitignore (in a repository), .ignore or .rgignore names; what is named .git is
-    none. Symbolic links are left out, and so is each file that cannot be a document: a binary one (with a byte 0), one of over a mebibyte,
-    one with a line of over 16,384 bytes, and one whose quoted name is over 255 bytes.
-
-    session: the session. Others may share it, and other folders with other prefixes.
-    root: the folder. Its path is made absolute now.
-    prefix: what the names of its documents begin with, before their paths from the top of the folder.
-    git: False to take the files that rules name, too.
-    progress: is called with the number of changed files that are sent, or that the program has loaded, and of all changed files, from 0 to
-        the whole.
-    loads: whether the program loads files itself where many have changed, which takes less time; by default if the session has started it.
-
-    Threads can share a folder; one at a time looks through it.
-    """
-
-    def __init__(
-        self,
-        session: Session,
-        root: str | bytes | os.PathLike[str] | os.PathLike[bytes] = ".",
-        *,
-        prefix: str | bytes = b"",
-        git: bool | None = None,
-        progress: Progress | None = None,
-        loads: bool | None = None,
-    ) -> None:
+    def __init__(self, session: Session, source: Source, progress: Progress | None = None) -> None:
         self._session = session
-        self._files = Files(root, prefix, git, loads=session.pid is not None if loads is None else loads)
+        self._source = source
         self._progress = progress or (lambda done, of: None)
         self._lock = threading.Lock()
         self._is_pending = False
 
     @property
-    def root(self) -> bytes:
-        """The absolute path of the folder."""
-        return self._files.root
-
-    @property
     def left_out(self) -> dict[bytes, str]:
-        """What is not in the session now, by its path from the top of the folder, with the reason."""
+        """What is not in the session now, by its name without the prefix, with the reason."""
         with self._lock:
-            return dict(self._files.left_out)
+            return dict(self._source.left_out)
 
     def refresh(self) -> Refreshed:
-        """Looks through the folder, sends what has changed by times, length or number of its file, and publishes it. A search that
-        is sent afterwards sees all of it. `Ended` if the program has ended: then `restart`. `PublishRefused` if there is no memory for
-        the publish: the next `refresh` publishes again."""
-        with self._lock:
+        """Looks at the source, sends what has changed, and publishes it. A search that is sent afterwards sees all of it. `Ended` if the
+        program has ended: then `restart`. `PublishRefused` if there is no memory for the publish: the next `refresh` publishes again."""
+        with self._lock, self._session.feeding:
             put, removed = self._send(self._session)
             published = None
             if put or removed or self._is_pending:
                 published = self._publish()
             else:
                 self._session.status()  # it may have ended
-            return Refreshed(put, removed, self._files.take_news(), published)
+            return Refreshed(put, removed, self._source.take_news(), published)
 
     def restart(self) -> Published | None:
-        """Starts the program again if it has ended, and sends all files. None if it runs. For a session with this folder alone; with
+        """Starts the program again if it has ended, and sends all documents. None if it runs. For a session with this source alone; with
         others it is `session.restart` with a callback that calls the `feed` of each. The errors are those of `session.restart`."""
         with self._lock:
             published = self._session.restart(self._feed)
             if published:
-                self._remove(self._files.take_refusals(published.refused))
+                self._remove(self._source.take_refusals(published.refused))
             return published
 
     def feed(self, changes: Changes) -> None:
-        """Sends all files to a new program, for `Session.restart`. A `refresh` has to follow, for what that program refuses."""
+        """Sends all documents to a new program, for `Session.restart`. A `refresh` has to follow, for what that program refuses."""
         with self._lock:
             self._feed(changes)
 
     def find(self, pattern: str | bytes, *, timeout: float | None = None, **options: Unpack[Options]) -> Answer:
-        """A search of the session, with the arguments and the errors of `Session.find`, in the documents of this folder as they were
-        last published, and in whatever else is in the session.
-        The hits are named by their paths from the top of the folder if there is no prefix."""
+        """A search of the session, with the arguments and the errors of `Session.find`, in the documents of this source as they were
+        last published, and in whatever else is in the session."""
         return self._session.find(pattern, timeout=timeout, **options)
 
     def _feed(self, changes: Changes) -> None:
-        self._files.forget()
+        self._source.forget()
         self._send(changes)
         self._is_pending = True
 
     def _send(self, changes: Changes) -> tuple[int, int]:
         put = removed = 0
         loaded: Callable[[], object] | None = None
-        for name, body, done, of, path in self._files.steps():
+        for name, body, done, of, path in self._source.steps():
             self._is_pending = True
             if done % BATCH == 0 and loaded:
                 # while the program has the next ones
@@ -459,7 +458,7 @@ class Folder:
     def _publish(self) -> Published:
         published = self._session.publish()
         self._is_pending = False
-        stale = self._files.take_refusals(published.refused)
+        stale = self._source.take_refusals(published.refused)
         return self._remove(stale) or published
 
     def _remove(self, stale: list[bytes]) -> Published | None:
@@ -467,3 +466,46 @@ class Folder:
         for name in stale:
             self._session.remove(name)
         return self._session.publish() if stale else None
+
+
+class Folder(Kept):
+    """Keeps the text files of a folder in a session.
+
+        with tsearch.Session() as session:
+            folder = tsearch.Folder(session, "src")
+            folder.refresh()
+            print(folder.find("o w").hits())
+
+    The files are those that git tracks, and all that no .gitignore (in a repository), .ignore or .rgignore names; what is named .git is
+    none. Symbolic links are left out, and so is each file that cannot be a document: a binary one (with a byte 0), one of over a mebibyte,
+    one with a line of over 16,384 bytes, and one whose quoted name is over 255 bytes.
+
+    session: the session. Others may share it, and other folders with other prefixes.
+    root: the folder. Its path is made absolute now.
+    prefix: what the names of its documents begin with, before their paths from the top of the folder.
+    git: False to take the files that rules name, too.
+    progress: is called with the number of changed files that are sent, or that the program has loaded, and of all changed files, from 0 to
+        the whole.
+    loads: whether the program loads files itself where many have changed, which takes less time; by default if the session has started it.
+
+    A file has changed if its times, its length or its number have. Hits are named by their paths from the top of the folder if there is no
+    prefix. Threads can share a folder; one at a time looks through it.
+    """
+
+    def __init__(
+        self,
+        session: Session,
+        root: str | bytes | os.PathLike[str] | os.PathLike[bytes] = ".",
+        *,
+        prefix: str | bytes = b"",
+        git: bool | None = None,
+        progress: Progress | None = None,
+        loads: bool | None = None,
+    ) -> None:
+        self._files = Files(root, prefix, git, loads=session.pid is not None if loads is None else loads)
+        super().__init__(session, self._files, progress)
+
+    @property
+    def root(self) -> bytes:
+        """The absolute path of the folder."""
+        return self._files.root

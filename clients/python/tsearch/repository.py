@@ -53,6 +53,15 @@ def repository_at(top: bytes) -> Repository | None:
     return Repository(top, folder, os.path.normpath(os.path.join(folder, common)) if common else folder)
 
 
+def git_folder(path: bytes) -> bytes | None:
+    """The own folder of the repository that has its top here, or that is here without a working tree; None if there is none."""
+    found = repository_at(path)
+    if found:
+        return found.folder
+    has_all = os.path.isfile(os.path.join(path, b"HEAD")) and all(os.path.isdir(os.path.join(path, part)) for part in (b"objects", b"refs"))
+    return path if has_all else None
+
+
 def repository_above(folder: bytes) -> Repository | None:
     """The repository that a folder is in."""
     while True:

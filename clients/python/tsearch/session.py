@@ -439,6 +439,8 @@ class Session(Changes):
     `ValueError` is raised for a `most_open` out of its range, `Error` if there is no program, and `OSError` if it cannot be started.
     `Ended` is raised by each call that waits for a program when it ends, and by each call after that, until `restart`. A `timeout` is
     in seconds; None is no limit.
+
+    feeding: a lock for who sends changes and takes what their publish says was refused, so that no publish of another thread takes it.
     """
 
     def __init__(
@@ -464,6 +466,7 @@ class Session(Changes):
         )  # fmt: skip
         self._messages, self._most_open, self._max_answer = messages, most_open, max_answer
         self._restarting, self._swapping, self._is_closed = threading.Lock(), threading.Lock(), False
+        self.feeding = threading.RLock()
         super().__init__(self._start(1))
 
     @classmethod
@@ -474,6 +477,7 @@ class Session(Changes):
         session._words = None
         session._messages, session._most_open, session._max_answer = None, most_open, None
         session._restarting, session._swapping, session._is_closed = threading.Lock(), threading.Lock(), False
+        session.feeding = threading.RLock()
         here, there = (os.dup(file if isinstance(file, int) else file.fileno()) for file in (reading, writing))
         Changes.__init__(session, _Connection(here, there, None, 1, most_open, None))
         return session
@@ -571,7 +575,11 @@ class Session(Changes):
         range and for over 16 name patterns of a kind, `TooSlow` after the time of `search_ms`, `SearchRefused` if the program has no
         memory for it, `Error` if two searches were not of one version in 100 tries, and `Ended`.
         """
-        query, deadline = Query.of(pattern, **options), _deadline(timeout)
+        return self.find_query(Query.of(pattern, **options), timeout=timeout)
+
+    def find_query(self, query: Query, *, timeout: float | None = None) -> Answer:
+        """Does what `find` does, for a query that is made."""
+        deadline = _deadline(timeout)
         for _ in range(MOST_TRIES):
             answers = self._answers(query, deadline)
             if (answer := joined(answers)) is not None:

@@ -10,6 +10,8 @@ from ..errors import Error
 from .answering import Call, Part
 from .aside import Aside
 from .asking import Piece, inside
+from .client import PAST
+from .past import Past
 from .tree import Tree
 
 
@@ -25,12 +27,16 @@ class _Alone:
         self._request = request
         self._terminal = terminal
         self._aside = Aside()
+        self._past = Past(terminal.error)
         self._trees: list[Tree] = []
         self._has_failed = False
 
     async def answer(self) -> int:
         """The status."""
         try:
+            if any(key in self._request["given"] for key in PAST):
+                status, self._terminal.carried = await self._past.answer(self._request, self._terminal)
+                return status
             call = Call(self._request, self._terminal)
             parts = [part for path in self._request["paths"] for part in await self._parts(*path)]
             self._terminal.end_progress()
@@ -41,7 +47,7 @@ class _Alone:
             self._terminal.say(error)
             return 2
         finally:
-            for kept in (self._aside, *self._trees):
+            for kept in (self._aside, self._past, *self._trees):
                 await kept.close()
 
     async def _parts(self, typed: str, real: str, is_folder: bool) -> list[Part]:

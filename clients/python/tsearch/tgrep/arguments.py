@@ -44,7 +44,11 @@ def _long(table, given, word, words, at):
     name, is_joined, joined = word.partition("=")
     if name not in table:
         raise Refused(_unknown(name))
-    _, metavar, _ = table[name]
+    key, metavar, value = table[name]
+    if metavar and metavar[0] == "[":
+        # what follows may be left out, and is never a word of its own
+        given[key] = joined if is_joined else value
+        return at
     if metavar is None:
         if is_joined:
             raise Refused(f"{name} takes nothing behind a =")
@@ -119,6 +123,8 @@ def _unknown(name):
 
 def _settle(given):
     """What one option means for others."""
+    if sum(key in given for key in ("at", "changed", "diff")) > 1:
+        raise Refused("give one of --at, --changed and --diff")
     if given.get("pretty"):
         given.update({"color": "always", "heading": True, "line_number": True})
     if given.get("color") == "ansi":

@@ -15,6 +15,8 @@ HEAD = 5
 OUTPUT, ERROR, PROGRESS, STATUS, DIFFERS, ELSEWHERE = b"o", b"e", b"p", b"s", b"x", b"w"
 _TRIES = 5
 STANDARD_INPUT = "-"
+# The options that search in what git has.
+PAST = ("at", "changed", "diff")
 
 
 class Lost(Exception):
@@ -118,10 +120,11 @@ def _run(given, terminal):
         raise OSError(errno.EBADF, os.strerror(errno.EBADF), "standard input")
     if "pattern_files" in given:
         _read_patterns(given)
-    if not paths and not given.get("recursive") and not given.get("files") and not given.get("order") and _is_readable():
+    is_past = any(key in given for key in PAST)
+    if not paths and not is_past and not given.get("recursive") and not given.get("files") and not given.get("order") and _is_readable():
         paths = [STANDARD_INPUT]
     statuses = []
-    groups = _groups(given, paths, statuses, terminal)
+    groups = _past(given, paths) if is_past else _groups(given, paths, statuses, terminal)
     is_single = len(paths) == 1 and bool(groups) and not groups[0][1][0][2]
     while groups:
         root, group = groups.pop(0)
@@ -132,6 +135,18 @@ def _run(given, terminal):
     if given.get("quiet") and 0 in statuses:
         return 0
     return 2 if 2 in statuses else min(statuses, default=2)
+
+
+def _past(given, paths):
+    """The paths as one group of the repository that the working folder is in. They need not be there now."""
+    here = os.getcwd()
+    start = os.path.realpath(given["root"]) if "root" in given else here
+    top = places.top_of(start)
+    if top is None and all(os.path.exists(os.path.join(start, part)) for part in ("HEAD", "objects", "refs")):
+        top, given["no_server"] = start, True  # a repository without files that could be kept
+    if top is None:
+        raise arguments.Refused(f"{start} is in no git repository, which --at, --changed and --diff need")
+    return [(top, [(typed, os.path.abspath(os.path.join(here, typed)), True) for typed in paths or [""]])]
 
 
 def _read_patterns(given):

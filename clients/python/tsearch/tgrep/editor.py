@@ -20,7 +20,7 @@ from .following import Following, Gone
 from .hints import hint
 from .overlays import OverlayRefused, Overlays, without
 from .spool import Spool
-from .tree import Tree, find_in
+from .tree import Tree
 
 PROTOCOL = 1
 _TRIES = 3
@@ -332,7 +332,7 @@ class _Answering:
         """What needs two searches, or is cut after names are dropped, or takes long to write."""
         limit = query.limit
         while True:
-            answer = await find_in(self._editor.tree.session, dataclasses.replace(query, limit=limit))
+            answer = await self._editor.tree.session.find_query(dataclasses.replace(query, limit=limit))
             rows = await asyncio.to_thread(rows_of, answer)
             kept = sum(row.is_found and row.name not in dropped for row in rows)
             if limit is None or not answer.more or not dropped or kept > (query.limit or 0):
@@ -346,8 +346,8 @@ class _Answering:
     async def _counted(self, query: Query, dropped: frozenset[bytes]) -> Answer:
         """How many lines there are."""
         if not dropped:
-            return await find_in(self._editor.tree.session, query)
-        answer = await find_in(self._editor.tree.session, dataclasses.replace(query, header_only=False, counts=True, limit=None))
+            return await self._editor.tree.session.find_query(query)
+        answer = await self._editor.tree.session.find_query(dataclasses.replace(query, header_only=False, counts=True, limit=None))
         count = sum(row.number for row in rows_of(answer) if row.name not in dropped)
         return dataclasses.replace(answer, count=count, more=False)
 

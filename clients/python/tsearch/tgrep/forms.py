@@ -11,7 +11,7 @@ import re
 from collections.abc import Callable, Iterator
 from typing import IO, Any, NamedTuple
 
-from ..answers import Hit, View
+from ..answers import Hit, View, spans_of
 from ..names import quote, unquote
 from ..query import Query
 from ..shortening import LONGEST, shortened
@@ -210,12 +210,6 @@ class Reading:
             line = int(number) + self._piece.line
             if self._is_wanted and self._piece.first <= line and (line <= self._piece.last or not self._piece.last):
                 yield Row(self._shown, line, is_found, text, spans, at)
-
-
-def spans_of(places: bytes) -> Spans:
-    """The matches that `FROM-TO,FROM-TO` says, as `text[begin:end]`."""
-    pairs = (place.partition(b"-") for place in places.split(b",") if place)
-    return tuple((int(first) - 1, int(last)) for first, _, last in pairs)
 
 
 def places_of(rows: IO[bytes], view: View) -> Iterator[tuple[Spans | None, int | None]]:

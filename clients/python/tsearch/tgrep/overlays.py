@@ -15,7 +15,6 @@ from ..answers import Answer
 from ..errors import ChangeRefused, Ended, Error
 from ..names import checked, quote
 from ..query import MAX_PATTERN, Query, escape
-from .tree import find_in
 
 # A pattern of names may be given so often.
 _MOST_PATTERNS = 16
@@ -92,7 +91,7 @@ class Overlays:
                 try:
                     names = await self._send()
                     assert self._session
-                    answer = await find_in(self._session, query)
+                    answer = await self._session.find_query(query)
                     return answer, names, {name: text.refused for name, text in self._texts.items() if text.refused}
                 except Ended:
                     await self._end()

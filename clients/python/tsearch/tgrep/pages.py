@@ -82,6 +82,8 @@ def _wrapped(text: str, width: int) -> list[str]:
 def _named(words: tuple[str, ...], metavar: str | None) -> str:
     if metavar is None:
         return ", ".join(words)
+    if metavar[0] == "[":
+        return ", ".join(f"{word}[={metavar[1:]}" for word in words)
     return ", ".join(f"{word}={metavar}" if word.startswith("--") else f"{word} {metavar}" for word in words)
 
 

@@ -23,9 +23,10 @@ from .alone import progress_text
 from .answering import Call, Part
 from .aside import Aside
 from .asking import inside, piece_of
-from .client import DIFFERS, ELSEWHERE, ERROR, OUTPUT, PROGRESS, STATUS
+from .client import DIFFERS, ELSEWHERE, ERROR, OUTPUT, PAST, PROGRESS, STATUS
 from .editor import Editor, is_editor
 from .following import Following
+from .past import Past
 from .spool import Spool
 from .tree import Tree
 
@@ -107,6 +108,7 @@ class Server:
         self._ending = asyncio.Event()
         self._tree = Tree(root, mode, self._pass_message)
         self._tree.progress = self._progress
+        self._past = Past(self._pass_message)
         self._following: Following | None = None
         self._has_said = False
         self._loading: asyncio.Task[None] | None = None
@@ -126,6 +128,7 @@ class Server:
         self._loading.cancel()
         with contextlib.suppress(asyncio.CancelledError, Error, OSError):
             await self._loading
+        await self._past.close()
         await self._tree.close()
 
     async def _load(self) -> None:
@@ -305,6 +308,8 @@ class Server:
                 await self._loaded()
                 reply.output(self._status().encode(errors="surrogateescape"))
                 reply.end(0)
+            elif any(key in request["given"] for key in PAST):
+                reply.end(*await self._past.answer(request, reply))
             elif not (self._is_loading and await self._answered_early(request, reply)):
                 await self._loaded()
                 await self._search(request, reply)

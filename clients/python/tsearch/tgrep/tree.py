@@ -284,10 +284,4 @@ class Tree:
 
 async def find(documents: Documents, query: Query) -> Answer:
     """The answer to a query, which may take two searches."""
-    return await find_in(documents.session, query)
-
-
-async def find_in(session: aio.Session, query: Query) -> Answer:
-    """The same in a session."""
-    options = {field: getattr(query, field) for field in query.__dataclass_fields__ if field != "pattern"}
-    return await session.find(query.pattern, **options)
+    return await documents.session.find_query(query)

@@ -3,17 +3,25 @@
 from __future__ import annotations
 
 import argparse
+import asyncio
+import contextlib
+import ipaddress
 import json
+import logging
 import os
+import signal
 import sys
 
 try:
     from aiohttp import web
 except ImportError:
-    sys.exit("tsearch.web: the library aiohttp is missing (on Debian: apt-get install python3-aiohttp)")
+    sys.exit(f"tsearch.web: {sys.executable} has no library aiohttp (on Debian: apt-get install python3-aiohttp, for /usr/bin/python3)")
 
-from .repositories import Filter
-from .server import _LOOPBACK, Limits, Server, Settings
+from ..errors import Error
+from .repositories import Filter, Served, served_of
+from .server import Server
+from .settings import LOOPBACK, Limits, Settings, checked, read_served
+from .visitors import Connection, OneLine
 
 
 def _number(least: int, most: int) -> type:
@@ -26,26 +34,47 @@ def _number(least: int, most: int) -> type:
     return read  # type: ignore[return-value]
 
 
-def _arguments(words: list[str] | None) -> argparse.Namespace:
+def _network(text: str) -> str:
+    return str(ipaddress.ip_network(text, strict=False))
+
+
+def _parser() -> argparse.ArgumentParser:
     parser = argparse.ArgumentParser(prog="python3 -m tsearch.web", description=__doc__.split(":")[0] + ".", allow_abbrev=False)
-    parser.add_argument("repositories", nargs="+", metavar="REPOSITORY", help="a folder, mostly a git repository")
-    parser.add_argument("--host", default="127.0.0.1", help="the address to listen at, by default %(default)s: this machine alone")
-    parser.add_argument("--port", type=_number(1, 65_535), default=8_080, help="by default %(default)s")
-    parser.add_argument("--most-lines", type=_number(1, 100_000), default=Limits.lines, help="lines of an answer, by default %(default)s")
-    parser.add_argument("--search-ms", type=_number(1, 4_294_967_295), default=Limits.search_ms, help="the time of a search, by default %(default)s")
-    parser.add_argument("--most-searches", type=_number(1, 512), default=Limits.searches, help="searches at a time, by default %(default)s")
-    parser.add_argument("--most-context", type=_number(0, 1_000), default=Limits.context, help="lines around a line, by default %(default)s")
-    parser.add_argument("--readers", type=_number(0, 16), help="threads that search each repository, by default 2")
-    parser.add_argument("--look", type=float, default=5.0, metavar="SECONDS", help="look for changed files so often, by default %(default)s")
-    parser.add_argument("--name", action="append", default=[], help="a host name under which the page may be called; once for each")
-    parser.add_argument("--filter-header", metavar="NAME", help="a header that the host in front sets: what a request may see")
-    parser.add_argument("--cluster", metavar="ADDRESS", help="keep the documents on the workers of this Dask scheduler")
-    parser.add_argument("--shards", type=_number(1, 1_000), default=2, help="workers for each repository there, by default %(default)s")
-    given = parser.parse_args(words)
+    add = parser.add_argument
+    add("repositories", nargs="*", metavar="REPOSITORY", help="a folder, mostly a git repository; of a bare one HEAD is served")
+    add("--revisions", action="append", default=[], metavar="REV", help="serve these branches, tags and commits, and not the files of a working tree; a name with a * is each such branch, tags/* each tag; once for each")
+    add("--settings", metavar="FILE", help="a file that names the repositories, and is read again on SIGHUP")
+    add("--link", default="", metavar="ADDRESS", help="what leads on to a host's own pages, with {commit}, {path}, {line} and {repository} in it")
+    add("--host", default="127.0.0.1", help="the address to listen at, by default %(default)s: this machine alone")
+    add("--port", type=_number(1, 65_535), default=8_080, help="by default %(default)s")
+    add("--most-lines", type=_number(1, 100_000), default=Limits.lines, help="lines of an answer, by default %(default)s")
+    add("--search-ms", type=_number(1, 4_294_967_295), default=Limits.search_ms, help="the time of a search, by default %(default)s")
+    add("--most-searches", type=_number(1, 512), default=Limits.searches, help="searches at a time, by default %(default)s")
+    add("--most-context", type=_number(0, 1_000), default=Limits.context, help="lines around a line, by default %(default)s")
+    add("--readers", type=_number(0, 16), help="threads that search each repository, by default 2")
+    add("--look", type=float, default=5.0, metavar="SECONDS", help="look for changed files so often, by default %(default)s")
+    add("--name", action="append", default=[], help="a host name under which the page may be called; once for each")
+    add("--proxy", action="append", default=[], type=_network, metavar="ADDRESS", help="a proxy whose X-Forwarded-For says who asks; once for each")
+    add("--filter-header", metavar="NAME", help="a header that the host in front sets: what a request may see")
+    add("--log", metavar="FILE", help="write a JSON line for each request; - is standard output")
+    add("--slow-ms", type=_number(0, 4_294_967_295), default=Settings.slow_ms, help="name the search there from so many milliseconds on, by default %(default)s")
+    add("--cluster", metavar="ADDRESS", help="keep the documents on the workers of this Dask scheduler")
+    add("--shards", type=_number(1, 1_000), default=2, help="workers for each repository there, by default %(default)s")
+    return parser
+
+
+def _served(given: argparse.Namespace, parser: argparse.ArgumentParser) -> tuple[Served, ...]:
+    if bool(given.settings) == bool(given.repositories) or (given.settings and (given.revisions or given.link)):
+        parser.error("give repositories, or --settings with a file that names them")
     for folder in given.repositories:
         if not os.path.isdir(folder):
             parser.error(f"{folder} is no folder")
-    return given
+    try:
+        if given.settings:
+            return read_served(given.settings)
+        return tuple(checked(one, one.name) for one in served_of(given.repositories, given.revisions, given.link))
+    except Error as error:
+        parser.error(str(error))
 
 
 def _filters_of(request: web.Request, header: str) -> dict[str, Filter]:
@@ -64,28 +93,74 @@ def _patterns_of(own: dict[str, object], key: str) -> tuple[str, ...]:
     return tuple(found)
 
 
-def main(words: list[str] | None = None) -> None:
-    """Serves until it is interrupted."""
-    given = _arguments(words)
-    is_local = given.host in _LOOPBACK
+def _settings(words: list[str] | None) -> tuple[argparse.Namespace, Settings]:
+    parser = _parser()
+    given = parser.parse_args(words)
+    is_local = given.host in LOOPBACK
     settings = Settings(
-        roots=tuple(given.repositories),
+        served=_served(given, parser),
         limits=Limits(given.most_lines, given.search_ms, given.most_searches, given.most_context),
         readers=given.readers,
         look=given.look,
-        hosts=frozenset({*_LOOPBACK, *given.name}) if is_local or given.name else None,
+        hosts=frozenset({*LOOPBACK, *given.name}) if is_local or given.name else None,
+        proxies=frozenset(given.proxy),
         filters=None if given.filter_header is None else lambda request: _filters_of(request, given.filter_header),
         cluster=given.cluster,
         shards=given.shards,
+        file=given.settings,
+        log=given.log,
+        slow_ms=given.slow_ms,
     )
+    return given, settings
 
-    def say(text: str) -> None:
-        print(f"tsearch.web: {text}", file=sys.stderr, flush=True)
 
-    async def application() -> web.Application:
-        return Server(settings, say).application()
+def _say(text: str) -> None:
+    with contextlib.suppress(OSError):
+        print("tsearch.web:", *text.splitlines(), file=sys.stderr, flush=True)
 
-    web.run_app(application(), host=given.host, port=given.port, print=say, handle_signals=True)
+
+async def _serve(host: str, port: int, settings: Settings) -> None:
+    """Serves until a signal ends it. SIGHUP reads the settings again."""
+    loop, ending = asyncio.get_running_loop(), asyncio.Event()
+    server = Server(settings, _say)
+    runner = web.AppRunner(server.application(), access_log=None, keepalive_timeout=30.0)
+    await runner.setup()
+    tasks: set[asyncio.Task[None]] = set()
+
+    def read_again() -> None:
+        task = loop.create_task(server.read_again())
+        tasks.add(task)
+        task.add_done_callback(tasks.discard)
+
+    loop.add_signal_handler(signal.SIGHUP, read_again)
+    for number in signal.SIGINT, signal.SIGTERM:
+        loop.add_signal_handler(number, ending.set)
+    manager = runner.server
+    assert manager is not None
+
+    def connected() -> Connection:
+        return Connection(manager, say_late=_say, loop=loop, access_log=None, keepalive_timeout=30.0)
+
+    listening = await loop.create_server(connected, host, port, backlog=512)
+    _say(f"serves at http://{host}:{port}/")
+    await ending.wait()
+    listening.close()
+    await runner.cleanup()
+
+
+def main(words: list[str] | None = None) -> None:
+    """Serves until it is interrupted."""
+    given, settings = _settings(words)
+    logger = logging.getLogger("aiohttp.server")
+    handler = logging.StreamHandler()
+    handler.setFormatter(logging.Formatter("tsearch.web: %(message)s"))
+    handler.addFilter(OneLine())
+    logger.addHandler(handler)
+    logger.propagate = False
+    try:
+        asyncio.run(_serve(given.host, given.port, settings))
+    except OSError as error:
+        sys.exit(f"tsearch.web: {given.host} {given.port}: {error.strerror or error}")
 
 
 if __name__ == "__main__":

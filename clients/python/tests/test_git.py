@@ -1,0 +1,311 @@
+"""Revisions of repositories that git has made."""
+
+from __future__ import annotations
+
+import asyncio
+import pathlib
+import shutil
+import tempfile
+import time
+import unittest
+
+from helpers import TOP, found_in  # puts the package on the path of modules
+from made import Made
+
+import tsearch
+from tsearch import aio, git
+
+NO_UTF8 = b"caf\xe9 \xff/a%b\n.txt"
+FILES = {
+    b"README": b"one of them\n",
+    b"src/main.c": b"int main(void)\n{\n}\n",
+    b"src/util.c": b"int util(int x)\n",
+    NO_UTF8: b"bytes \xff\xfe here\n",
+    b"a b/c.txt": b"a space\n",
+}
+
+
+def named(made: Made, *revisions: str, prefix: bytes = b"") -> dict[bytes, bytes]:
+    """The documents of branches, as a session is to have them."""
+    return {prefix + revision.encode() + b":" + path: body for revision in revisions for path, body in made.files[revision].items()}
+
+
+@unittest.skipUnless(shutil.which("git"), "the command git is missing")
+class Revisions(unittest.TestCase):
+    def setUp(self) -> None:
+        self.top = pathlib.Path(self.enterContext(tempfile.TemporaryDirectory()))
+        self.made = Made(self.top / "made.git")
+        self.session = self.enterContext(tsearch.Session())
+
+    def expect(self, documents: dict[bytes, bytes]) -> None:
+        """The session has these documents and no others."""
+        self.assertEqual(self.session.status().documents, len(documents))
+        for pattern in "", "int", "e":
+            self.assertEqual([hit[:3] for hit in self.session.find(pattern)], [row[:3] for row in found_in(documents, pattern)[2]])
+
+    def test_branches_that_move_come_and_go(self) -> None:
+        made = self.made
+        first = made.commit("main", FILES)
+        revisions = git.Revisions(self.session, made.path, ["main", "feature/*"])
+        self.assertEqual(revisions.refresh().put, len(FILES))
+        self.expect(named(made, "main"))
+        self.assertEqual(revisions.commits, {"main": first})
+        self.assertEqual(revisions.refresh()[:2], (0, 0))
+        # a push costs what it changes
+        made.commit("main", {b"src/main.c": b"int main(int count)\n", b"README": None, b"new": b"new\n"})
+        self.assertEqual(revisions.refresh()[:2], (2, 1))
+        self.expect(named(made, "main"))
+        # a branch that comes
+        made.commit("feature/x", {b"src/x.c": b"int x;\n"}, start="main")
+        made.commit("other", {b"src/x.c": b"int other;\n"}, start="main")
+        revisions.refresh()
+        self.expect(named(made, "main", "feature/x"))
+        # one that goes, with its name in packed-refs
+        made.git("pack-refs", "--all")
+        self.assertEqual(revisions.refresh()[:2], (0, 0))
+        made.git("branch", "-D", "feature/x")
+        self.assertEqual(revisions.refresh()[:2], (0, len(made.files["feature/x"])))
+        self.expect(named(made, "main"))
+        self.assertEqual(list(revisions.commits), ["main"])
+        # and comes back
+        made.commit("feature/x", {b"back": b"int back;\n"}, start="main")
+        revisions.refresh()
+        self.expect(named(made, "main", "feature/x"))
+
+    def test_renames(self) -> None:
+        made = self.made
+        made.commit("main", FILES)
+        revisions = git.Revisions(self.session, made.path, ["main"])
+        revisions.refresh()
+        made.commit("main", {b"src/util.c": None, b"lib/util.c": FILES[b"src/util.c"]})
+        self.assertEqual(revisions.refresh()[:2], (1, 1))
+        self.expect(named(made, "main"))
+        # a file in the place of a folder, and a folder in that of a file
+        made.commit("main", {b"lib/util.c": None, b"lib": b"int file;\n", b"README": None, b"README/a": b"int a;\n"})
+        revisions.refresh()
+        self.expect(named(made, "main"))
+
+    def test_history_that_is_written_anew(self) -> None:
+        """Also once git has dropped the commits before."""
+        made = self.made
+        made.commit("main", FILES)
+        revisions = git.Revisions(self.session, made.path, ["main"])
+        revisions.refresh()
+        for is_dropped in False, True:
+            made.commit("main", {b"only": b"int only;\n", b"src/util.c": FILES[b"src/util.c"] * (1 + is_dropped)}, start=None)
+            if is_dropped:
+                made.git("reflog", "expire", "--expire=now", "--all")
+                made.git("gc", "-q", "--prune=now")
+            refreshed = revisions.refresh()
+            self.assertEqual(refreshed.removed, 0 if is_dropped else len(FILES) - 1)
+            self.expect(named(made, "main"))
+
+    def test_a_push_by_force(self) -> None:
+        """From a clone, into the repository that is served."""
+        made = self.made
+        made.commit("main", FILES)
+        revisions = git.Revisions(self.session, made.path, ["main"])
+        revisions.refresh()
+        made.git("clone", "-q", str(made.path), str(self.top / "clone"))
+        clone = Made(self.top / "clone", is_bare=False)
+        clone.files["main"] = dict(FILES)
+        clone.commit("main", {b"src/main.c": b"int amended;\n"}, start=None)
+        clone.git("push", "-q", "--force", "origin", "main")
+        self.assertEqual(revisions.refresh()[:2], (1, len(FILES) - 1))
+        self.expect({b"main:src/main.c": b"int amended;\n"})
+
+    def test_an_empty_repository(self) -> None:
+        revisions = git.Revisions(self.session, self.made.path)
+        self.assertEqual(revisions.refresh()[:2], (0, 0))
+        self.assertEqual((revisions.commits, revisions.left_out), ({}, {}))
+        self.made.commit("main", FILES)
+        revisions.refresh()
+        self.expect({name.replace(b"main:", b"HEAD:", 1): body for name, body in named(self.made, "main").items()})
+        self.made.git("update-ref", "-d", "refs/heads/main")
+        revisions.refresh()
+        self.expect({})
+
+    def test_what_is_left_out(self) -> None:
+        made = self.made
+        other = (
+            b"M 120000 inline link\ndata 4\nsrc/\n"
+            b"M 160000 0123456789012345678901234567890123456789 module\n"
+            b"M 100755 inline run.sh\ndata 9\nint run;\n\n"
+        )
+        bodies = {b"binary": b"\x89PNG\0", b"x" * 250 + b"/" + b"y" * 250: b"long name\n", b"long": b"x" * 70_000 + b"\n"}
+        made.commit("main", {**FILES, **bodies}, other=other)
+        revisions = git.Revisions(self.session, made.path, ["main"], prefix="made:")
+        refreshed = revisions.refresh()
+        wanted = {b"main:binary": "binary", b"main:link": "symbolic link", b"main:module": "submodule"}
+        self.assertEqual((dict(refreshed.left_out), revisions.left_out), (wanted, wanted))
+        documents = {**named(made, "main", prefix=b"made:"), b"made:main:run.sh": b"int run;\n"}
+        del documents[b"made:main:binary"]
+        self.expect(documents)
+        # each is said once, and no longer once it is a document or gone
+        self.assertEqual(revisions.refresh().left_out, [])
+        made.commit("main", {b"binary": b"text\n", b"link": None, b"module": None})
+        revisions.refresh()
+        self.assertEqual(revisions.left_out, {})
+        self.expect({**documents, b"made:main:binary": b"text\n"})
+        # a document that can be one no longer
+        made.commit("main", {b"README": b"\0"})
+        self.assertEqual(revisions.refresh().left_out, [(b"main:README", "binary")])
+        self.assertEqual([hit.name for hit in self.session.find("", names="README")], [])
+        # what the program alone refuses
+        with tsearch.Session(max_line=16_384) as session:
+            revisions = git.Revisions(session, made.path, ["main"])
+            self.assertIn((b"main:long", "line too long"), revisions.refresh().left_out)
+            made.commit("main", {b"src/main.c": b"x" * 20_000})
+            self.assertEqual(revisions.refresh().left_out, [(b"main:src/main.c", "line too long")])
+            self.assertEqual(session.find("int main").hits(), [])
+
+    def test_a_body_over_the_limit(self) -> None:
+        self.made.commit("main", {b"large": b"a line of it\n" * 5_200_000, b"small": b"small\n"})
+        revisions = git.Revisions(self.session, self.made.path, ["main"])
+        self.assertEqual(revisions.refresh().left_out, [(b"main:large", "body too long")])
+        self.expect({b"main:small": b"small\n"})
+
+    def test_marks_and_utf_16(self) -> None:
+        """As for files of a folder."""
+        text = "int wide;\n"
+        self.made.commit("main", {b"mark": b"\xef\xbb\xbfint marked;\n", b"wide": b"\xff\xfe" + text.encode("utf-16-le")})
+        git.Revisions(self.session, self.made.path, ["main"]).refresh()
+        self.expect({b"main:mark": b"int marked;\n", b"main:wide": text.encode()})
+
+    def test_tags_and_commits(self) -> None:
+        made = self.made
+        first = made.commit("main", FILES)
+        made.git("tag", "v1")
+        made.git("tag", "-a", "-m", "two", "v2")
+        made.git("tag", "main")
+        made.git("tag", "blob", made.git("rev-parse", "main:README"))
+        second = made.commit("main", {b"src/main.c": b"int main(int count)\n"})
+        revisions = git.Revisions(self.session, made.path, ["tags/v*", "tags/b*", first[:12], "main", "*", "none", "main:src", "-x", "a\nb"])
+        revisions.refresh()
+        self.assertEqual(revisions.commits, {"tags/v1": first, "tags/v2": first, first[:12]: first, "main": second})
+        documents = {f"{revision}:".encode() + path: body for revision in ("tags/v1", "tags/v2", first[:12]) for path, body in FILES.items()}
+        self.expect({**documents, **named(made, "main")})
+
+    def test_a_push_of_10_000_files(self) -> None:
+        made = self.made
+        made.commit("main", FILES)
+        revisions = git.Revisions(self.session, made.path, ["main"])
+        revisions.refresh()
+        many = {b"many/%d/%d.c" % (number % 97, number): b"int number_%d;\n" % number for number in range(10_000)}
+        made.commit("main", many)
+        self.assertEqual(revisions.refresh()[:2], (10_000, 0))
+        self.expect(named(made, "main"))
+        made.commit("main", dict.fromkeys(many))
+        self.assertEqual(revisions.refresh()[:2], (0, 10_000))
+        self.expect(named(made, "main"))
+
+    def test_other_forms_of_a_repository(self) -> None:
+        """A working tree, another one of the same repository, and hashes of the other kind. What is not committed does not count."""
+        tree = Made(self.top / "tree", is_bare=False)
+        tree.commit("main", FILES)
+        (tree.path / "README").write_bytes(b"not committed\n")
+        tree.git("worktree", "add", "-q", "-b", "beside", str(self.top / "beside"), "main")
+        longer = Made(self.top / "longer.git", sha256=True)
+        longer.commit("main", FILES)
+        for path, revision in (tree.path, "main"), (self.top / "beside", "beside"), (longer.path, "main"):
+            with self.subTest(path=path), tsearch.Session() as session:
+                git.Revisions(session, path, [revision]).refresh()
+                documents = {revision.encode() + b":" + name: body for name, body in FILES.items()}
+                self.assertEqual([hit[:3] for hit in session.find("")], [row[:3] for row in found_in(documents, "")[2]])
+        for path in self.top, self.top / "none", self.top / "tree/.git/refs":
+            with self.assertRaises(git.NoRepository):
+                git.Revisions(self.session, path)
+
+    def test_nothing_of_a_repository_is_run(self) -> None:
+        """Neither what its settings name, nor is anything fetched for it."""
+        made = self.made
+        made.commit("main", FILES)
+        ran = self.top / "ran"
+        command = f"touch {ran}; false"
+        for key in "core.fsmonitor", "core.sshCommand", "diff.external", "core.pager", "remote.origin.uploadpack", "filter.x.smudge", "diff.x.textconv":
+            made.git("config", key, command)
+        for key, text in ("remote.origin.url", str(self.top)), ("remote.origin.promisor", "true"), ("extensions.partialClone", "origin"):
+            made.git("config", key, text)
+        made.commit("main", {b".gitattributes": b"* filter=x diff=x\n"})
+        number = made.git("rev-parse", "main:README")
+        (made.path / "objects" / number[:2] / number[2:]).unlink(missing_ok=True)
+        for pack in (made.path / "objects/pack").glob("*"):
+            self.fail(pack)
+        revisions = git.Revisions(self.session, made.path, ["main"])
+        refreshed = revisions.refresh()
+        self.assertEqual(refreshed.left_out, [(b"main:README", "missing in the repository")])
+        self.assertFalse(ran.exists())
+
+    def test_a_program_that_ends(self) -> None:
+        made = self.made
+        made.commit("main", FILES)
+        revisions = git.Revisions(self.session, made.path, ["main"])
+        revisions.refresh()
+        self.session.kill()
+        with self.assertRaises(tsearch.Ended):
+            revisions.refresh()
+        made.commit("main", {b"src/main.c": b"int main(int count)\n"})
+        revisions.restart()
+        self.expect(named(made, "main"))
+        made.commit("main", {b"src/main.c": None})
+        self.assertEqual(revisions.refresh()[:2], (0, 1))
+
+    def test_a_look_that_fails_is_made_again(self) -> None:
+        """In the middle of what it sends, and in that of what it reads."""
+        made = self.made
+        made.commit("main", FILES)
+        made.commit("gone", {b"gone": b"int gone;\n"}, start="main")
+        objects = git.Objects(git.Store(made.path), ["main", "gone"])
+        kept = tsearch.folder.Kept(self.session, objects)
+        kept.refresh()
+        made.commit("main", {b"src/main.c": b"int changed;\n", b"README": None, b"new": b"new\n"})
+        made.git("branch", "-D", "gone")
+        for count in range(1, 9):
+            steps = objects.steps()
+            for step in [next(steps, None) for _ in range(count)]:
+                if step and step.body is None:
+                    self.session.remove(step.name)
+                elif step:
+                    self.session.put(step.name, step.body)
+            steps.close()
+        kept.refresh()
+        self.session.publish()
+        self.expect(named(made, "main"))
+
+    def test_with_asyncio(self) -> None:
+        made = self.made
+        made.commit("main", FILES)
+
+        async def run() -> None:
+            async with aio.Session.started() as session:
+                revisions = aio.Revisions(session, made.path, ["main"])
+                await revisions.refresh()
+                self.assertEqual(len(await session.find("int main")), 1)
+                made.commit("main", {b"src/main.c": b"int other;\n"})
+                began = time.monotonic()
+                refreshed = await revisions.refresh()
+                self.assertEqual((refreshed.put, refreshed.removed), (1, 0))
+                self.assertLess(time.monotonic() - began, 10)
+                self.assertEqual([hit.text for hit in await session.find("int other")], [b"int other;"])
+                session.kill()
+                with self.assertRaises(tsearch.Ended):
+                    await revisions.refresh()
+                await revisions.restart()
+                self.assertEqual(len(await session.find("int other")), 1)
+
+        asyncio.run(run())
+
+
+class Package(unittest.TestCase):
+    def test_the_repository_of_this_clone(self) -> None:
+        """A commit, or a branch, of a repository that was not made for a test."""
+        try:
+            store = git.Store(TOP)
+        except git.NoRepository:
+            self.skipTest("the tests are not in a clone")
+        commit = store.commits(["HEAD"])["HEAD"]
+        self.assertIn(b"clients/python/README.md", store.files(commit))
+
+
+if __name__ == "__main__":
+    unittest.main()

@@ -1,0 +1,196 @@
+"""The server of a code host, asked without a browser: repositories of git, who sees what, and settings."""
+
+import importlib.util
+import json
+import os
+import pathlib
+import re
+import shutil
+import signal
+import stat
+import tempfile
+import time
+import unittest
+
+from helpers import until
+from made import Made
+from serving import Server, serving_in
+
+FILES = {
+    b"src/main.c": b"int main(void)\n{\n    return call(1);\n}\n",
+    b"src/util.c": b"int call(int x)\n",
+    b"secret/key.c": b"int key;\n",
+    b"caf\xe9 x": b"int bytes;\n",
+}
+NO_REASON = importlib.util.find_spec("aiohttp") and shutil.which("git")
+REASON = "the library aiohttp (python3-aiohttp) or the command git is missing"
+
+
+class Host(unittest.TestCase):
+    def setUp(self) -> None:
+        self.top = pathlib.Path(self.enterContext(tempfile.TemporaryDirectory()))
+        self.made = Made(self.top / "made.git")
+        self.first = self.made.commit("main", FILES)
+
+    def serve(self, *words: str, count: int = 1) -> Server:
+        return self.enterContext(serving_in(self.top, *words, count=count))
+
+    def metric(self, server: Server, name: str) -> float:
+        """The sum of a measurement over its labels."""
+        text = server.get("/metrics")[1].decode()
+        return sum(float(value) for value in re.findall(rf"^{name}(?:{{.*}})? (\S+)$", text, re.MULTILINE))
+
+
+@unittest.skipUnless(NO_REASON, REASON)
+class Repositories(Host):
+    def view(self, server: Server, commit: str, path: str) -> tuple[int, dict]:
+        status, body, _ = server.get(f"/api/file?repository=made&commit={commit}&name={path}")
+        return status, json.loads(body)
+
+    def test_what_a_bare_repository_has(self) -> None:
+        """Its files, and not what it is made of."""
+        server = self.serve(str(self.made.path))
+        rows = server.find("int main|repositoryformatversion")
+        head = {"repository": "made", "life": 1, "version": 4, "lines": 1, "more": False, "loaded": True, "revision": "HEAD", "commit": self.first}
+        self.assertEqual(rows[0], head)
+        self.assertEqual([row["name"] for row in rows if "hits" in row], ["src/main.c"])
+        status, told = self.view(server, self.first, "src/main.c")
+        self.assertEqual((status, told["lines"], told["commit"]), (200, FILES[b"src/main.c"].decode().splitlines(), self.first))
+        self.assertEqual(self.view(server, self.first, "caf%E9%20x")[1]["lines"], ["int bytes;"])
+
+    def test_an_empty_repository(self) -> None:
+        """It is named beside the others, and found in once there is a commit."""
+        empty = Made(self.top / "empty.git")
+        server = self.serve(str(self.made.path), str(empty.path), count=2)
+        rows = server.find("int main")
+        self.assertIn({"repository": "empty", "fault": "there is no commit yet"}, rows)
+        self.assertEqual(rows[-1]["missing"], ["empty"])
+        self.assertEqual(server.find("x", repository="empty"), [{"refused": "there is no commit yet"}])
+        empty.commit("main", {b"a": b"int main;\n"})
+        until(lambda: len(server.hits("int main")) == 2)
+
+    def test_commits_that_are_served(self) -> None:
+        """Those of the revisions, those before, and those that were served; no others, though they are in the repository."""
+        made = self.made
+        before = self.first
+        now = made.commit("main", {b"src/new.c": b"int new;\n"})
+        hidden = made.commit("hidden", {b"hidden.c": b"int hidden;\n"}, start="main")
+        server = self.serve("--revisions", "main", str(made.path))
+        self.assertEqual([self.view(server, commit, "src/main.c")[0] for commit in (before, now)], [200, 200])
+        self.assertEqual(self.view(server, before, "src/new.c")[1], {"refused": "there is no such file"})
+        for commit in hidden, hidden[:12], "hidden", "HEAD~9", "0" * 40, "--all", now + "^{tree}", made.git("rev-parse", "main:src/main.c"):
+            status, told = self.view(server, commit, "src/main.c")
+            self.assertEqual((status, told["refused"]), (410, "this commit is not served, or no longer"), commit)
+        review = lambda one, other: server.lines("/api/review", repository="made", before=one, after=other, q="int")  # noqa: E731
+        self.assertEqual(review(before, "main")[-1]["added"], 1)
+        self.assertEqual(review(before, "hidden"), [{"refused": "hidden is no commit that is served"}])
+        self.assertEqual(review("", "main")[0]["refused"], " is no commit that is served")
+        # history that is written anew
+        made.commit("main", {b"only": b"int only;\n"}, start=None)
+        until(lambda: server.hits("int only"))
+        self.assertEqual(self.view(server, now, "src/new.c")[1]["lines"], ["int new;"])
+        self.assertEqual(server.find("x", revision="hidden"), [{"refused": "there is no hidden"}])
+
+    def test_filters(self) -> None:
+        """Of the host, in searches, counts, files and reviews."""
+        made = self.made
+        other = made.commit("topic", {b"secret/key.c": b"int other;\n", b"src/util.c": b"int other;\n"}, start="main")
+        server = self.serve("--revisions", "main", "--revisions", "topic", "--filter-header", "X-Filters", str(made.path))
+        server.headers = {"X-Filters": json.dumps({"made": {"not_names": ["^secret/"]}})}
+        names = lambda **words: [row["name"] for row in server.find("int", **words) if "hits" in row]  # noqa: E731
+        self.assertEqual(names(), ["caf\ufffd x", "src/main.c", "src/util.c"])
+        self.assertEqual(names(name="secret|key"), [])
+        self.assertEqual(names(**{"not": "src"}), ["caf\ufffd x"])
+        self.assertEqual(server.lines("/api/count", q="int"), [{"counts": {"made": 3}}])
+        self.assertEqual(self.view(server, self.first, "secret/key.c")[0], 410)
+        self.assertEqual(self.view(server, other, "src/util.c")[0], 200)
+        rows = server.lines("/api/review", repository="made", before="main", after="topic", q="int")
+        self.assertEqual([row["after"]["name"] for row in rows if "hits" in row], ["src/util.c"])
+        server.headers = {"X-Filters": json.dumps({"made": {"names": ["("]}})}
+        for rows in server.find("int"), server.lines("/api/review", repository="made", before="main", after="topic", q="int"):
+            self.assertEqual(rows, [{"refused": "group not closed", "offset": 0, "in": "host"}])
+        server.headers = {"X-Filters": json.dumps({"none": {}})}
+        self.assertEqual(server.find("int")[-1]["lines"], 0)
+        self.assertEqual(server.get("/api/review?repository=made&before=main&after=topic&q=int")[0], 400)
+
+    def test_a_push_is_found_at_its_hook(self) -> None:
+        """Without the page looking by itself. The hook is that of the page for operators."""
+        made = self.made
+        server = self.serve("--look", "1000", str(made.path))
+        hook = made.path / "hooks/post-receive"
+        hook.parent.mkdir(exist_ok=True)
+        hook.write_text(f"#!/bin/sh\nexec curl -fsS -X POST {server.address}/api/look >/dev/null\n")
+        hook.chmod(hook.stat().st_mode | stat.S_IXUSR)
+        made.git("clone", "-q", str(made.path), str(self.top / "clone"))
+        clone = Made(self.top / "clone", is_bare=False)
+        clone.commit("main", {b"%d.c" % number: b"int pushed;\n" for number in range(50)})
+        clone.git("push", "-q", "origin", "main")
+        began = time.monotonic()
+        until(lambda: len(server.hits("int pushed")) == 50)
+        self.assertLess(time.monotonic() - began, 10)
+        self.assertEqual(server.get("/api/look?repository=made")[0], 405)
+
+    def test_shares(self) -> None:
+        from tsearch.web.server import shares
+
+        self.assertEqual(shares([10, 3, 0, 100], 40), [10, 3, 0, 27])
+        self.assertEqual(shares([100, 100, 100], 10), [4, 3, 3])
+        self.assertEqual(shares([5, 5], 100), [5, 5])
+        self.assertEqual(shares([5, 5, 5], 2), [1, 1, 0])
+        self.assertEqual(shares([], 10), [])
+
+
+@unittest.skipUnless(NO_REASON, REASON)
+class Settings(Host):
+    def test_a_file_of_settings_that_changes(self) -> None:
+        """Repositories and branches come and go, and what stays is not loaded again."""
+        other = Made(self.top / "other.git")
+        other.commit("main", {b"a.c": b"int other;\n"})
+        other.commit("topic", {b"a.c": b"int topic;\n"}, start="main")
+        file = self.top / "tsearch.toml"
+        first = '[[repository]]\npath = "made.git"\nname = "first"\nlink = "https://git.example/{repository}/{commit}/{path}"\n'
+        file.write_text(first)
+        server = self.serve("--settings", str(file))
+        program = server.programs()
+        self.assertEqual(json.loads(server.get("/api/status")[1])["repositories"][0]["link"], "https://git.example/{repository}/{commit}/{path}")
+
+        def change(text: str) -> None:
+            file.write_text(text)
+            os.kill(server.pid, signal.SIGHUP)
+
+        second = '[[repository]]\npath = "other.git"\nrevisions = ["main", "topic"]\n'
+        change(first + second)
+        until(lambda: [row[0] for row in server.hits("int other|int main")] == ["first", "other"])
+        self.assertEqual(server.hits("int topic", revision="topic", repository="other"), [("other", "a.c", 1, "int topic;")])
+        self.assertEqual(server.programs()[:1], program)
+        change(second.replace(', "topic"', ""))
+        until(lambda: [row[0] for row in server.hits("int other|int main")] == ["other"])
+        self.assertEqual(server.find("x", revision="topic"), [{"refused": "there is no topic"}])
+        # a file with a fault changes nothing, and is told
+        for text, reason in {
+            "[[repository": "Expected", '[[repository]]\nname = "x"\n': "a path is needed", '[[repository]]\npath = "none"\n': "is no folder",
+            f'[[repository]]\npath = "{self.top}"\nrevisions = ["main"]\n': "is no git repository", second * 2: "two repositories are called other",
+            second + 'link = "javascript:x"\n': "a link is an address", "[limits]\n": "tables [[repository]] alone",
+            '[[repository]]\npath = "made.git"\nname = "a:b"\n': "no colon", '[[repository]]\npath = "made.git"\ncolour = 1\n': "the keys are",
+        }.items():  # fmt: skip
+            change(text)
+            until(lambda reason=reason: reason in server.log)
+            self.assertEqual([row[0] for row in server.hits("int other|int main")], ["other"], text)
+        self.assertEqual(len(server.programs()), 1)
+
+    def test_health(self) -> None:
+        server = self.serve(str(self.made.path))
+        self.assertEqual(server.get("/health")[:2], (200, b'{"ok": true, "not_served": 0}'))
+        os.rename(self.made.path / "HEAD", self.made.path / "HEAD-")
+        until(lambda: server.get("/health")[0] == 503)
+        self.assertIn("made: ", server.log)
+        self.assertIn("not a git repository", json.loads(server.get("/api/status")[1])["repositories"][0]["fault"])
+        # what was found is found, until it is mended
+        self.assertEqual(len(server.hits("int main")), 1)
+        os.rename(self.made.path / "HEAD-", self.made.path / "HEAD")
+        until(lambda: server.get("/health")[0] == 200)
+        self.assertEqual(server.log.count("not a git repository"), 1)
+
+
+if __name__ == "__main__":
+    unittest.main()

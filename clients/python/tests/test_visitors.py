@@ -1,0 +1,187 @@
+"""The visitors of a code host, asked without a browser: other sites, requests that do not come, turns, and what is logged."""
+
+import concurrent.futures
+import json
+import os
+import re
+import signal
+import socket
+import time
+import unittest
+
+from helpers import SECONDS, SLOW, until
+from serving import Server
+from test_host import NO_REASON, REASON, Host
+
+FIND = b"GET /api/find?q=int HTTP/1.1\r\nHost: localhost\r\n"
+
+
+@unittest.skipUnless(NO_REASON, REASON)
+class Visitors(Host):
+    def test_other_sites(self) -> None:
+        """They get nothing with content, and start nothing; a link to the page is one."""
+        server = self.serve(str(self.made.path))
+        before = self.metric(server, "tsearch_web_searches_total")
+        for headers in {"Sec-Fetch-Site": "cross-site"}, {"Sec-Fetch-Site": "same-site"}, {"Origin": "https://other.example"}, {"Origin": "null"}:
+            for path in "/api/find?q=int", "/api/status", "/api/file?name=src/main.c", "/api/count?q=int", "/metrics", "/page.js", "/":
+                status, body, _ = server.get(path, headers)
+                self.assertEqual((status, body), (403, b""), (headers, path))
+        self.assertEqual(self.metric(server, "tsearch_web_searches_total"), before)
+        link = {"Sec-Fetch-Site": "cross-site", "Sec-Fetch-Mode": "navigate", "Sec-Fetch-Dest": "document"}
+        self.assertEqual([server.get(path, link)[0] for path in ("/", "/?q=int", "/api/find?q=int")], [200, 200, 403])
+        for headers in {"Sec-Fetch-Site": "same-origin"}, {"Sec-Fetch-Site": "none"}, {"Origin": server.address}:
+            self.assertEqual(server.get("/api/find?q=int", headers)[0], 200, headers)
+
+    def connect(self, server: Server) -> socket.socket:
+        host, port = server.address.removeprefix("http://").split(":")
+        return self.enterContext(socket.create_connection((host, int(port)), SECONDS))
+
+    def test_requests_that_cannot_be_read(self) -> None:
+        """Each costs a line of the log, and ends."""
+        server = self.serve(str(self.made.path))
+        for request in (
+            b"GET /" + b"a" * 10_000 + b" HTTP/1.1\r\nHost: localhost\r\n\r\n", FIND + b"X-Long: " + b"a" * 10_000 + b"\r\n\r\n",
+            FIND + b"".join(b"X-%d: a\r\n" % number for number in range(500)) + b"\r\n", b"\0\1\2\r\n\r\n", b"GET / HTTP/9\r\n\r\n", FIND + b"X\xff\xfe\n: a\r\n\r\n",
+        ):  # fmt: skip
+            before = len(server.log.splitlines())
+            visitor = self.connect(server)
+            visitor.sendall(request)
+            self.assertIn(visitor.recv(20)[:12], (b"HTTP/1.1 400", b"HTTP/1.0 400", b"HTTP/1.1 200", b"HTTP/1.0 200"), request[:40])
+            visitor.close()
+            self.assertLessEqual(len(server.log.splitlines()) - before, 1, server.log)
+            self.assertLess(max(map(len, server.log.splitlines())), 400)
+        self.assertEqual(len(server.hits("int main")), 1)
+
+    def test_requests_that_do_not_come(self) -> None:
+        """A head that comes slowly, or not at all, ends after ten seconds; one that is there does not."""
+        server = self.serve(str(self.made.path))
+        silent, half, dripping, asking = (self.connect(server) for _ in range(4))
+        began = time.monotonic()
+        half.sendall(FIND)
+        asking.sendall(FIND + b"\r\n")
+        self.assertTrue(asking.recv(1 << 16).startswith(b"HTTP/1.1 200"))
+        dripping.sendall(b"GET /")
+        dripping.settimeout(0.5)
+        end = None
+        while time.monotonic() - began < 30 and end is None:
+            try:
+                dripping.sendall(b"x")
+                end = time.monotonic() if dripping.recv(1) == b"" else None
+            except TimeoutError:
+                pass
+            except OSError:
+                end = time.monotonic()
+        self.assertIsNotNone(end)
+        self.assertEqual([one.recv(1) for one in (silent, half)], [b"", b""])
+        self.assertTrue(9 < time.monotonic() - began < 25)
+        self.assertEqual(server.log.count("no whole request in 10 seconds"), 3)
+        # a connection that has asked stays for more
+        asking.settimeout(SECONDS)
+        asking.sendall(FIND + b"\r\n")
+        self.assertIn(b"HTTP/1.1 200", asking.recv(1 << 16) + asking.recv(1 << 16))
+
+    def test_two_searches_of_one_visitor_at_a_time(self) -> None:
+        """Those of others do not wait for them, and too many are refused. A proxy says who asks, if it is one that is named."""
+        self.made.commit("main", {b"slow/%d" % number: b"xab" * 5_000 + b"\n" for number in range(200)})
+        server = self.serve("--proxy", "127.0.0.1", "--search-ms", "4000", "--readers", "4", str(self.made.path))
+        slow = {"X-Forwarded-For": "spoofed, 2001:db8::1"}
+        same = {"X-Forwarded-For": "2001:db8::2"}
+        with concurrent.futures.ThreadPoolExecutor(24) as pool:
+            searches = [pool.submit(server.get, f"/api/find?q={SLOW.replace('+', '%2B')}&n={number}", slow) for number in range(22)]
+            time.sleep(0.5)
+            began = time.monotonic()
+            status, body, _ = server.get("/api/find?q=int%20main", {"X-Forwarded-For": "198.51.100.7"})
+            self.assertEqual((status, body.count(b'"hits"')), (200, 1))
+            other = time.monotonic() - began
+            self.assertEqual(server.get("/api/find?q=int", same)[0], 429)
+            self.assertLess(other, 3)
+            until(lambda: sum(search.done() for search in searches) >= 4)
+            self.assertEqual([search.result()[0] for search in searches if search.done()].count(429), 4)
+            for program in server.programs():
+                os.kill(program, signal.SIGKILL)
+
+    def test_addresses(self) -> None:
+        from tsearch.web.visitors import Visitors
+
+        class Asked:
+            def __init__(self, remote: str, *named: str) -> None:
+                self.remote = remote
+                self.headers = self
+                self._named = list(named)
+
+            def getall(self, _name: str, default: list[str]) -> list[str]:
+                return self._named or default
+
+        visitors = Visitors(frozenset({"127.0.0.1", "10.0.0.0/8"}))
+        for asked, wanted in (
+            (Asked("192.0.2.1"), "192.0.2.1"), (Asked("192.0.2.1", "198.51.100.1"), "192.0.2.1"), (Asked("127.0.0.1"), "127.0.0.1"),
+            (Asked("127.0.0.1", "198.51.100.1"), "198.51.100.1"), (Asked("127.0.0.1", "1.1.1.1, 198.51.100.1, 10.1.2.3"), "198.51.100.1"),
+            (Asked("127.0.0.1", "1.1.1.1", "198.51.100.2"), "198.51.100.2"), (Asked("127.0.0.1", "nonsense"), "127.0.0.1"),
+            (Asked("2001:db8::1:2:3:4"), "2001:db8::/64"), (Asked("127.0.0.1", "2001:db8::9"), "2001:db8::/64"),
+        ):  # fmt: skip
+            self.assertEqual(visitors.address_of(asked), wanted)
+
+    def test_a_hundred_visitors(self) -> None:
+        """All are answered, and rightly, while branches move; none of them waits for ever."""
+        server = self.serve("--proxy", "127.0.0.1", "--revisions", "main", str(self.made.path))
+        patterns = {"int main": 1, "int call": 1, "return call": 1, "int (main|call|key|bytes)": 4, "nothing": 0}
+
+        def visit(visitor: int) -> list[float]:
+            times = []
+            for turn in range(5):
+                pattern = list(patterns)[(visitor + turn) % len(patterns)]
+                began = time.monotonic()
+                path = "/api/find?q=" + pattern.replace(" ", "%20").replace("|", "%7C")
+                status, body, _ = server.get(path, {"X-Forwarded-For": f"198.51.100.{visitor}"})
+                times.append(time.monotonic() - began)
+                rows = [json.loads(line) for line in body.splitlines()]
+                self.assertEqual((status, rows[-1].get("lines")), (200, patterns[pattern]), (pattern, rows))
+            return times
+
+        with concurrent.futures.ThreadPoolExecutor(100) as pool:
+            visits = [pool.submit(visit, visitor) for visitor in range(100)]
+            for number in range(5):
+                self.made.commit("main", {b"moving/%d" % number: b"moved\n" * 100})
+            times = sorted(time for visit in visits for time in visit.result())
+        self.assertLess(times[-1], SECONDS / 2)
+        self.assertEqual(self.metric(server, "tsearch_web_search_seconds_count"), 500)
+
+
+@unittest.skipUnless(NO_REASON, REASON)
+class Logs(Host):
+    def test_requests_and_slow_searches(self) -> None:
+        log = self.top / "requests"
+        server = self.serve("--log", str(log), "--slow-ms", "0", "--proxy", "127.0.0.1", str(self.made.path))
+        server.get("/api/find?q=int%20main&name=%22%0A", {"X-Forwarded-For": "198.51.100.1"})
+        server.get("/none%0A", {"X-Forwarded-For": "198.51.100.1"})
+
+        def rows() -> list[dict]:
+            return [json.loads(line) for line in log.read_text().splitlines() if "198.51" in line]
+
+        until(lambda: len(rows()) == 2)
+        first, second = rows()
+        self.assertEqual({key: first[key] for key in ("address", "method", "path", "status", "slow", "query")}, {
+            "address": "198.51.100.1", "method": "GET", "path": "/api/find", "status": 400, "slow": True, "query": "q=int%20main&name=%22%0A",
+        })  # fmt: skip
+        self.assertRegex(first["time"], r"^20\d\d-\d\d-\d\dT\d\d:\d\d:\d\dZ$")
+        self.assertEqual((second["path"], second["status"]), ("/none\n", 404))
+        # moved away, as logrotate does
+        log.rename(self.top / "requests.1")
+        os.kill(server.pid, signal.SIGHUP)
+        until(log.exists)
+        server.get("/", {"X-Forwarded-For": "198.51.100.2"})
+        until(lambda: [row["path"] for row in rows()] == ["/"])
+
+    def test_measurements(self) -> None:
+        server = self.serve(str(self.made.path))
+        server.find("int")
+        self.assertGreater(self.metric(server, "tsearch_memory_bytes"), 1_000_000)
+        self.assertEqual(self.metric(server, "tsearch_loaded"), 1)
+        text = server.get("/metrics")[1].decode()
+        buckets = [int(float(count)) for count in re.findall(r'^tsearch_web_search_seconds_bucket\{le=".*"\} (\S+)$', text, re.MULTILINE)]
+        self.assertEqual((buckets, buckets[-1]), (sorted(buckets), 1))
+        self.assertGreater(self.metric(server, "tsearch_search_seconds_total"), 0)
+
+
+if __name__ == "__main__":
+    unittest.main()

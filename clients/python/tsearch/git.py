@@ -1,0 +1,413 @@
+"""A git repository by its objects: any number of its branches, tags and commits in a session, from a bare repository too.
+
+    with tsearch.Session() as session:
+        revisions = tsearch.git.Revisions(session, "redis.git", ["unstable", "7.*", "tags/7.0.*"])
+        revisions.refresh()
+        print(session.find("o w", names="^unstable:src/").hits())
+
+Objects are read by the command git, so packs, alternates and hashes of each kind are; nothing of the repository is run, and nothing fetched.
+"""
+
+from __future__ import annotations
+
+import collections
+import contextlib
+import fnmatch
+import os
+import stat
+import subprocess
+import threading
+import time
+from collections.abc import Iterable, Iterator, Mapping, Sequence
+from typing import IO, NamedTuple
+
+from . import names
+from .errors import ChangeRefused, Error
+from .folder import TICK, Kept, LeftOut, Progress, Step, called, text_body
+from .program import MOST_BODY
+from .repository import git_folder
+from .session import Session
+
+FILE_KINDS = (b"100644", b"100755", b"100664")
+_REASONS = {b"120000": "symbolic link", b"160000": "submodule"}
+_BRANCHES, _TAGS = "refs/heads/", "refs/tags/"
+_OF_TAGS = "tags/"
+# Where names are, in the repository's own folder.
+_OF_NAMES = (b"HEAD", b"packed-refs", b"refs", b"reftable")
+# Bodies are read ahead by so many bytes.
+_BLOCK = 1 << 18
+# In seconds: how long git may take to list what has changed.
+_GIT_TIME = 600
+
+
+class NoRepository(Error):
+    """A folder is no git repository, or git cannot read it."""
+
+
+class Entry(NamedTuple):
+    """A file of a commit: its kind, as git writes it, and the number of its bytes' object."""
+
+    kind: bytes
+    object: bytes
+
+
+class Store:
+    """The objects and the names of a repository: a bare one, or that of a working tree. `NoRepository` if there is none."""
+
+    def __init__(self, path: str | bytes | os.PathLike[str] | os.PathLike[bytes]) -> None:
+        self.path = os.path.abspath(os.fsencode(path))
+        found = git_folder(self.path)
+        if found is None:
+            raise NoRepository(f"{os.fsdecode(self.path)} is no git repository")
+        self.folder = found
+        # a repository that is named like this may have any owner. None of git's variables is passed on: a hook has some for itself
+        self._environment = {key: text for key, text in os.environb.items() if not key.startswith(b"GIT_") or key == b"GIT_EXEC_PATH"}
+        self._environment |= {
+            b"GIT_DIR": found,
+            b"LC_ALL": b"C",
+            b"GIT_OPTIONAL_LOCKS": b"0",
+            b"GIT_NO_REPLACE_OBJECTS": b"1",
+            b"GIT_NO_LAZY_FETCH": b"1",
+            b"GIT_ALLOW_PROTOCOL": b"none",
+        }
+
+    def run(self, *words: str | bytes, stdin: bytes = b"") -> bytes:
+        """What a command of git writes. `NoRepository` with its message if it fails."""
+        try:
+            done = subprocess.run([b"git", *words], input=stdin, capture_output=True, env=self._environment, cwd=self.folder, timeout=_GIT_TIME, check=False)
+        except (OSError, subprocess.SubprocessError) as error:
+            raise NoRepository(f"{os.fsdecode(self.path)}: {error}") from None
+        if done.returncode not in (0, 1):
+            message = done.stderr.decode(errors="replace").strip().rpartition("\n")[2]
+            raise NoRepository(f"{os.fsdecode(self.path)}: {message or f'git ends with status {done.returncode}'}")
+        return done.stdout
+
+    def commits(self, wanted: Sequence[str]) -> dict[str, str]:
+        """The commits of names: a branch, a tag, a commit, or what else git reads as one; a name with a `*`, `?` or `[` is each branch of
+        such a name, or behind `tags/` each tag. Each in the order of the names; what is not there is left out."""
+        plain = [name for name in wanted if not _is_glob(name)]
+        found = dict(zip(plain, self._resolved(plain)))
+        every = self._branches_and_tags() if len(plain) < len(wanted) else {}
+        commits: dict[str, str] = {}
+        for name in wanted:
+            each = {name: found[name]} if name in found else _matching(name, every)
+            commits |= {one: commit for one, commit in each.items() if commit and one not in commits}
+        return commits
+
+    def _resolved(self, wanted: Sequence[str]) -> list[str]:
+        """The commit of each name, empty if it is none. Of a branch and a tag of one name it is the branch's."""
+        fit = [names.to_bytes("" if _is_unfit(name) else name) for name in wanted]
+        asked = b"".join(b"%s%s^{commit}\n%s^{commit}\n" % (_BRANCHES.encode(), name, name) for name in fit)
+        rows = self.run("cat-file", "--batch-check=%(objectname) %(objecttype)", stdin=asked).splitlines() if asked else []
+        commits = [row.removesuffix(b" commit").decode() if row.endswith(b" commit") else "" for row in rows]
+        return [branch or other for branch, other in zip(commits[::2], commits[1::2])]
+
+    def _branches_and_tags(self) -> dict[str, str]:
+        rows = self.run("for-each-ref", "--format=%(refname)%00%(objectname)%00%(objecttype)%00%(*objectname)%00%(*objecttype)", _BRANCHES, _TAGS)
+        found: dict[str, str] = {}
+        for row in rows.splitlines():
+            name, *pairs = row.split(b"\0")
+            commit = next((one.decode() for one, kind in (pairs[:2], pairs[2:]) if kind == b"commit"), "")
+            found[names.to_text(name)] = commit
+        return found
+
+    def stamp(self) -> frozenset[tuple[bytes, int, int, int]]:
+        """What tells that a name may be another commit's: the times, lengths and numbers of the files with the names. git puts a new file in
+        the place of one that it changes."""
+        with contextlib.suppress(OSError), open(os.path.join(self.folder, b"commondir"), "rb") as file:
+            return _stamps_in(self.folder) | _stamps_in(os.path.join(self.folder, file.read().strip()))
+        return _stamps_in(self.folder)
+
+    def files(self, commit: str) -> dict[bytes, Entry]:
+        """The files of a commit by their paths."""
+        rows = self.run("ls-tree", "-r", "-z", "--full-tree", commit).split(b"\0")[:-1]
+        split = (row.partition(b"\t") for row in rows)
+        return {path: Entry(*head.split(b" ")[::2]) for head, _, path in split}
+
+    def changes(self, before: str, after: str) -> dict[bytes, Entry | None]:
+        """The files that two commits do not have alike, as they are in the second; None for one that it has not."""
+        rows = iter(self.run("diff-tree", "-r", "-z", "--raw", "--no-renames", "--no-abbrev", before, after).split(b"\0")[:-1])
+        found: dict[bytes, Entry | None] = {}
+        for row in rows:
+            _, kind, _, number, status = row.split(b" ")
+            found[next(rows)] = None if status == b"D" else Entry(kind, number)
+        return found
+
+    def is_before(self, commit: str, others: Iterable[str]) -> bool:
+        """Whether a commit is one of others, or leads to one."""
+        asked = [b"^" + other.encode() for other in others]
+        if not asked or not self._resolved([commit])[0]:
+            return False
+        return not self.run("rev-list", "-n", "1", "--stdin", stdin=b"\n".join([commit.encode(), *asked]) + b"\n")
+
+    def entry(self, commit: str, path: bytes) -> Entry | None:
+        """A file of a commit; None if there is none."""
+        rows = self.run("--literal-pathspecs", "ls-tree", "-z", "--full-tree", commit, "--", path).split(b"\0")
+        head, _, found = rows[0].partition(b"\t")
+        return Entry(*head.split(b" ")[::2]) if found == path else None
+
+    def bodies(self, objects: Sequence[bytes]) -> Iterator[tuple[bytes, bytes | str]]:
+        """Each of some objects with its bytes, or with the reason why they are not read."""
+        sizes = self.run("cat-file", "--batch-check=%(objectsize)", stdin=b"".join(b"%s\n" % one for one in objects)).splitlines() if objects else []
+        wanted = []
+        for number, size in zip(objects, sizes):
+            if not size.isdigit():
+                yield number, "missing in the repository"
+            elif int(size) > MOST_BODY:
+                yield number, "body too long"
+            else:
+                wanted.append(number)
+        if wanted:
+            yield from self._read(wanted)
+
+    def _read(self, wanted: list[bytes]) -> Iterator[tuple[bytes, bytes]]:
+        pipe = subprocess.PIPE
+        command = [b"git", b"cat-file", b"--batch", b"--buffer"]
+        with subprocess.Popen(command, stdin=pipe, stdout=pipe, env=self._environment, cwd=self.folder, bufsize=_BLOCK) as process:
+            assert process.stdin and process.stdout
+            feeder = threading.Thread(target=_feed, args=(process.stdin, wanted), daemon=True)
+            feeder.start()
+            try:
+                for number in wanted:
+                    head = process.stdout.readline().split()
+                    if len(head) != 3:
+                        raise NoRepository(f"{os.fsdecode(self.path)}: git gives no object {number.decode()}")
+                    body = process.stdout.read(int(head[2]) + 1)[:-1]
+                    yield number, body
+            finally:
+                process.kill()
+                feeder.join()
+
+
+def reason_of(entry: Entry | None) -> str:
+    """Why there is no document for what is no file."""
+    return _REASONS.get(entry.kind, "no file") if entry else "no file"
+
+
+def _stamps_in(folder: bytes) -> frozenset[tuple[bytes, int, int, int]]:
+    left = [os.path.join(folder, part) for part in _OF_NAMES]
+    found = set()
+    while left:
+        path = left.pop()
+        try:
+            state = os.lstat(path)
+            found.add((path, state.st_mtime_ns, state.st_size, state.st_ino))
+            left += [entry.path for entry in os.scandir(path)] if stat.S_ISDIR(state.st_mode) else []
+        except OSError:
+            continue  # it is gone, or was never there
+    return frozenset(found)
+
+
+def _feed(stdin: IO[bytes], wanted: list[bytes]) -> None:
+    with contextlib.suppress(OSError), stdin:
+        stdin.write(b"".join(b"%s\n" % number for number in wanted))
+
+
+def _is_glob(name: str) -> bool:
+    return any(letter in name for letter in "*?[")
+
+
+def _matching(glob: str, every: dict[str, str]) -> dict[str, str]:
+    """The commits of the branches, or behind `tags/` of the tags, that a glob names, by their names without what is before them."""
+    start = "refs/" if glob.startswith(_OF_TAGS) else _BRANCHES
+    return {name.removeprefix(start): commit for name, commit in every.items() if fnmatch.fnmatchcase(name, start + glob)}
+
+
+def _is_unfit(name: str) -> bool:
+    """Whether a name cannot be asked for in a line, or is more than a name."""
+    return any(letter in name for letter in "\n\0:") or name.startswith(("-", "^"))
+
+
+class Objects:
+    """What a session has of a repository's revisions, as its client knows it: a document for each file, named `prefix`, the name of the
+    revision, a colon and the path. It sends nothing."""
+
+    def __init__(self, store: Store, wanted: Sequence[str], prefix: str | bytes = b"") -> None:
+        self.store = store
+        self.root = store.path
+        self.prefix = names.to_bytes(prefix)
+        # the names of the revisions, as `Store.commits` takes them
+        self.wanted = tuple(wanted)
+        # the commit of each revision that the session has
+        self.commits: dict[str, str] = {}
+        # of the look before, if that has seen all
+        self._stamp: frozenset[tuple[bytes, int, int, int]] | None = None
+        self.left_out: dict[bytes, str] = {}
+        self.held: dict[str, set[bytes]] = {}
+        self._new: set[bytes] = set()
+        self._news: list[LeftOut] = []
+
+    def forget(self) -> None:
+        """A new program has nothing of the repository."""
+        self._stamp = None
+        self.commits.clear()
+        self.held.clear()
+        self._new.clear()
+
+    def steps(self) -> Iterator[Step]:
+        """Looks at the revisions, and gives what makes the session's documents those of their commits now."""
+        began, stamp = time.time_ns(), self.store.stamp()
+        if stamp == self._stamp:
+            return
+        now = self.store.commits(self.wanted)
+        gone = [one for one in self.held if one not in now]
+        removed = [name for revision in gone for name in self._removed(revision)]
+        put: list[tuple[bytes, Entry]] = []
+        for revision, commit in now.items():
+            if self.commits.get(revision) != commit:
+                changed = self._changes(revision, commit)
+                start = self._start(revision)
+                removed += [start + path for path in changed if changed[path] is None and path in self.held[revision]]
+                self._pass_over(start, changed)
+                put += [(start + path, entry) for path, entry in changed.items() if entry is not None]
+        yield from self._steps(removed, put)
+        # a look that fails midway is made again from the commits before
+        self.commits = now
+        for revision in gone:
+            del self.held[revision]
+        # a file that changes twice within a tick of the clock has another number, mostly
+        is_settled = all(modified <= began - TICK for _, modified, _, _ in stamp)
+        is_whole = all(_is_glob(name) or name in now for name in self.wanted)
+        self._stamp = stamp if is_settled and is_whole else None
+
+    def _start(self, revision: str) -> bytes:
+        return names.to_bytes(revision) + b":"
+
+    def _removed(self, revision: str) -> list[bytes]:
+        """The documents of a revision that goes. What the session can do at once for a prefix has its place here."""
+        start = self._start(revision)
+        for name in [one for one in self.left_out if one.startswith(start)]:
+            del self.left_out[name]
+        return [start + path for path in self.held[revision]]
+
+    def _changes(self, revision: str, commit: str) -> Mapping[bytes, Entry | None]:
+        """What a revision has at a commit otherwise than the session has it. A copy of the documents of another revision, from which this
+        one differs least, has its place here."""
+        before = self.commits.get(revision)
+        held = self.held.setdefault(revision, set())
+        if before is not None:
+            try:
+                return self.store.changes(before, commit)
+            except NoRepository:  # git has dropped the commit
+                pass
+        files = self.store.files(commit)
+        return {**dict.fromkeys(held - files.keys()), **files}
+
+    def _pass_over(self, start: bytes, changed: Mapping[bytes, Entry | None]) -> None:
+        """What is left out no longer is, if it has changed."""
+        for path in changed:
+            self.left_out.pop(start + path, None)
+
+    def _steps(self, removed: list[bytes], put: list[tuple[bytes, Entry]]) -> Iterator[Step]:
+        of, done = len(removed) + len(put), 0
+        for name in removed:
+            self._drop(name)
+            yield Step(self.prefix + name, None, done, of)
+            done += 1
+        by_object: dict[bytes, list[bytes]] = collections.defaultdict(list)
+        for name, entry in put:
+            if entry.kind not in FILE_KINDS:
+                yield from self._without(name, reason_of(entry), done, of)
+                done += 1
+            else:
+                by_object[entry.object].append(name)
+        for number, found in self.store.bodies(list(by_object)):
+            body = text_body(found) if isinstance(found, bytes) else found
+            for name in by_object[number]:
+                yield from self._put(name, body, done, of)
+                done += 1
+
+    def _put(self, name: bytes, body: bytes | str, done: int, of: int) -> Iterator[Step]:
+        """The step for a document; a text in place of its body is the reason why it can be none."""
+        if isinstance(body, bytes):
+            try:
+                names.checked(self.prefix + name)
+            except ChangeRefused as refused:
+                body = refused.reason
+        if isinstance(body, str):
+            yield from self._without(name, body, done, of)
+            return
+        revision, path = _split(name)
+        held = self.held[revision]
+        (self._new.discard if path in held else self._new.add)(name)
+        held.add(path)
+        yield Step(self.prefix + name, body, done, of)
+
+    def _without(self, name: bytes, reason: str, done: int, of: int) -> Iterator[Step]:
+        self._leave_out(name, reason)
+        if self._drop(name):
+            yield Step(self.prefix + name, None, done, of)
+
+    def _drop(self, name: bytes) -> bool:
+        """Notes that the session has a document no longer. Whether it had it, as far as is known."""
+        revision, path = _split(name)
+        held = self.held.get(revision, set())
+        was_held = path in held
+        held.discard(path)
+        self._new.discard(name)
+        return was_held
+
+    def _leave_out(self, name: bytes, reason: str) -> None:
+        if self.left_out.get(name) != reason:
+            self.left_out[name] = reason
+            self._news.append(LeftOut(name, reason))
+
+    def take_refusals(self, refused: tuple[ChangeRefused, ...]) -> list[bytes]:
+        """Takes what a publish says was refused. The documents to remove: the session has an older body of each."""
+        stale = []
+        for refusal in refused:
+            name = refusal.name.removeprefix(self.prefix)
+            if refusal.name.startswith(self.prefix) and _split(name)[1] in self.held.get(_split(name)[0], ()):
+                if name not in self._new:
+                    stale.append(refusal.name)
+                self._drop(name)
+                self._leave_out(name, called(refusal.reason))
+        self._new.clear()
+        return stale
+
+    def is_new(self, name: bytes) -> bool:
+        """Whether the document of a step is new to the session."""
+        return name.removeprefix(self.prefix) in self._new
+
+    def take_news(self) -> list[LeftOut]:
+        """What is left out and was not given before."""
+        news, self._news = self._news, []
+        return news
+
+
+def _split(name: bytes) -> tuple[str, bytes]:
+    """The revision and the path of a document's name. No name of a revision has a colon."""
+    revision, _, path = name.partition(b":")
+    return names.to_text(revision), path
+
+
+class Revisions(Kept):
+    """Keeps revisions of a git repository in a session.
+
+    session: the session. Others may share it.
+    path: the repository: a bare one, or the folder of a working tree, of which the objects count and not the files.
+    wanted: names of branches, of tags and of commits, by default that of HEAD. A name with a `*`, `?` or `[` is each branch of such a name,
+        or behind `tags/` each tag; those that come later belong to it too.
+    prefix: what the names of its documents begin with. Then come the revision, a colon and the path, as in `git show main:src/a.c`.
+    progress: is called with the number of changed files that are sent, and of all.
+
+    A look costs the files in which a revision differs from its commit before, however far it moves. Left out are submodules, symbolic links,
+    and each file that can be no document, as for `tsearch.Folder`. `NoRepository` if there is no repository.
+    """
+
+    def __init__(
+        self,
+        session: Session,
+        path: str | bytes | os.PathLike[str] | os.PathLike[bytes],
+        wanted: Sequence[str] = ("HEAD",),
+        *,
+        prefix: str | bytes = b"",
+        progress: Progress | None = None,
+    ) -> None:
+        self._objects = Objects(Store(path), wanted, prefix)
+        super().__init__(session, self._objects, progress)
+
+    @property
+    def commits(self) -> dict[str, str]:
+        """The commit of each revision that the session has."""
+        return dict(self._objects.commits)
