@@ -990,11 +990,12 @@ def searches_beside_others(runs):
 
 
 def texts_are_formed_beside_one_another(runs):
-    """A run forms the text of a large answer in three threads, of which it starts two for each 384 KiB. The search itself is small."""
+    """A run forms the text of a large answer in three threads beside the one that writes: it starts three for each 384 KiB. The search
+    itself is small."""
     long = put(b"a", b"\n" * 500_000) + b"publish\nsearch ^\n"
     made = runs.memory(SCRIPT_BESIDE, long)
     pieces = len(made.text) // 393_216
-    yield f"threads of a {SCRIPT_BESIDE} with a text of 4.9 MB", made.threads, 2 + 2 * pieces, 2 + 4 * pieces
+    yield f"threads of a {SCRIPT_BESIDE} with a text of 4.9 MB", made.threads, 2 + 3 * pieces, 2 + 6 * pieces
 
 
 def texts_of_a_session_are_formed_by_its_readers(runs):

@@ -89,12 +89,10 @@ class Visitors(Host):
         with concurrent.futures.ThreadPoolExecutor(24) as pool:
             searches = [pool.submit(server.get, f"/api/find?q={SLOW.replace('+', '%2B')}&n={number}", slow) for number in range(22)]
             time.sleep(0.5)
-            began = time.monotonic()
             status, body, _ = server.get("/api/find?q=int%20main", {"X-Forwarded-For": "198.51.100.7"})
             self.assertEqual((status, body.count(b'"hits"')), (200, 1))
-            other = time.monotonic() - began
+            self.assertGreater(sum(not search.done() for search in searches), 10)
             self.assertEqual(server.get("/api/find?q=int", same)[0], 429)
-            self.assertLess(other, 3)
             until(lambda: sum(search.done() for search in searches) >= 4)
             self.assertEqual([search.result()[0] for search in searches if search.done()].count(429), 4)
             for program in server.programs():
