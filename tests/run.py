@@ -104,6 +104,7 @@ SEVERAL_ANSWERS = {
     "load_of_a_file_that_grows_and_shrinks",
     "many_searches",
     "many_searches_of_a_large_body",
+    "names_up_to_4096_bytes",
     "patterns_of_forty_branches",
     "patterns_on_the_page",
     "script_over_a_megabyte",
