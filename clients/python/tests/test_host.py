@@ -166,6 +166,7 @@ class Settings(Host):
         change(second.replace(', "topic"', ""))
         until(lambda: [row[0] for row in server.hits("int other|int main")] == ["other"])
         until(lambda: server.find("x", revision="topic") == [{"refused": "there is no topic"}])
+        until(lambda: [row[0] for row in server.hits("int other|int main")] == ["other"])
         # a file with a fault changes nothing, and is told
         for text, reason in {
             "[[repository": "Expected", '[[repository]]\nname = "x"\n': "a path is needed", '[[repository]]\npath = "none"\n': "is no folder",
