@@ -64,20 +64,9 @@ class Timed(Neovim):
             self.flushed_at = time.perf_counter()
             self.waits_for = None
 
-    def _read(self):
-        import msgpack
-
-        unpacker = msgpack.Unpacker(raw=False, unicode_errors="surrogateescape", strict_map_key=False)
-        while data := os.read(self.process.stdout.fileno(), 1 << 18):
-            unpacker.feed(data)
-            for message in unpacker:
-                if message[0] == 1:
-                    self._answers.put(message[1:])
-                elif message[1] == "redraw":
-                    self._redraw(message[2])
-                elif message[2][0] == self.waits_for and not self.shown:
-                    self.shown = message[2]
-        self._answers.put(None)
+    def _note(self, words):
+        if words[0] == self.waits_for and not self.shown:
+            self.shown = words
 
     def key(self, key, pattern):
         """The milliseconds of one key, after which the window searches for this pattern; and the number of lines of its first screen."""

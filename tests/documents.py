@@ -7,6 +7,7 @@ and as a session without readers and with two. A sync follows each search, so th
 Usage: tests/documents.py [NAME..]   The last line counts: N passed, M failed.
 """
 
+import random
 import re
 import subprocess
 
@@ -45,6 +46,10 @@ class Script:
     def remove(self, name):
         self.parts.append(b"remove %s\n" % name)
         del self.documents[name]
+
+    def remove_under(self, prefix):
+        self.parts.append(b"removeunder %s\n" % prefix)
+        self.documents = {name: body for name, body in self.documents.items() if not name.startswith(prefix)}
 
     def search(self, pattern, names, candidates=None):
         """A publish and a search that finds all lines of the documents of these names, which are of one line each. Its
@@ -127,6 +132,27 @@ def numbers_that_go_in_any_order():
         script.check()
 
 
+def names_that_go_by_their_beginning():
+    """In trees of three letters, beginnings of any length go, also while some documents are not yet published, and come again. A
+    document that has one of the beginnings within its name, or at its end, stays."""
+    source = random.Random(5)
+    for size in 1, 3, 40, 400, 4_000:
+        script = Script()
+        for _ in range(6):
+            for _ in range(size):
+                script.put(bytes(source.choices(b"a/\xc3", k=source.randrange(1, 7))), source.choice([b"abc", b"bcd"]))
+            for _ in range(3):
+                name = source.choice([*script.documents, b"b"])
+                prefix = name[: source.randrange(1, len(name) + 1)]
+                if any(name.startswith(prefix) for name in script.documents):
+                    script.remove_under(prefix)
+                if source.random() < 0.5:
+                    script.put(prefix, b"abc")
+            for text in b"abc", b"bcd", b"":
+                script.search(text, [name for name, body in script.documents.items() if text in body])
+        script.check()
+
+
 def text_of(number):
     """A text of five bytes, whose first trigram no other number below 17,576 has."""
     return bytes(97 + number // step % 26 for step in (1, 26, 676)) + b"xy"
@@ -197,4 +223,4 @@ def bodies():
 
 
 if __name__ == "__main__":
-    run_tests([candidates_after_commands, documents_that_go, numbers_that_go_in_any_order, document_that_is_replaced_often, one_of_many_trigrams, bodies])
+    run_tests([candidates_after_commands, documents_that_go, numbers_that_go_in_any_order, names_that_go_by_their_beginning, document_that_is_replaced_often, one_of_many_trigrams, bodies])

@@ -59,15 +59,20 @@ class Documents:
 
 
 def lists_of_many_trigrams(start):
-    """Each of nearly four million trigrams has a list, in both copies. They come and go twice."""
+    """Each of nearly four million trigrams has a list, in both copies. They come and go, and come again and again.
+
+    What is given back the second time is in many small pieces, of which the system need not see all. But the next lists must use them.
+    """
     source = random.Random(1)
     bodies = [random_body(source, MEBIBYTE) for _ in range(4)]
     with start() as session:
         documents = Documents(session, [])
-        for _ in range(2):
-            full, left = documents.come_and_go(bodies)
-            if left - documents.begin > PART * (full - documents.begin):
-                raise Wrong(f"{documents.begin} bytes before the documents, {full} with them, and {left} when they are gone")
+        first, left = documents.come_and_go(bodies)
+        if left - documents.begin > PART * (first - documents.begin):
+            raise Wrong(f"{documents.begin} bytes before the documents, {first} with them, and {left} when they are gone")
+        later = [documents.come_and_go(bodies)[0] for _ in range(3)]
+        if max(later) - first > 2 * PART * (first - documents.begin):
+            raise Wrong(f"{documents.begin} bytes before the documents, {first} with them, and {later} each further time")
         session.end(0)
 
 

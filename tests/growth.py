@@ -295,6 +295,17 @@ def removes_from_the_end(n):
     return after(published(n), b"".join(b"remove f%d\n" % number for number in reversed(range(n))) + b"publish\n")
 
 
+def removes_under_a_prefix(n):
+    """The names rise as their numbers fall, so each document goes from the end of its sets."""
+    puts = b"".join(put(b"f%04d" % (9_999 - number), b"one abcd two defg") for number in range(n))
+    return after(puts + b"publish\n" * 3, b"removeunder f\npublish\n")
+
+
+def removes_under_one_prefix_after_another(n):
+    """As many commands as documents, each of which removes one: those with longer names went before."""
+    return after(published(n), b"".join(b"removeunder f%d\n" % number for number in reversed(range(n))) + b"publish\n")
+
+
 def puts_and_removes(n):
     return after(SMALL, b"put f 11\nhello world\nremove f\n" * n + b"publish\n")
 
@@ -336,7 +347,7 @@ def lines_of_no_known_form(n):
 
 
 def items_of_each_kind(n):
-    return after(SMALL, b"put b 3\nabc\nload c nothing/here\nremove b\npublish\nsearch o w\nsearchin a o\nisearch O\nsync\n#\nwhat\n" * n)
+    return after(SMALL, b"put b 3\nabc\nload c nothing/here\nremove b\nput b/c 1\nx\nremoveunder b\npublish\nsearch o w\nsearchin a o\nisearch O\nsync\n#\nwhat\n" * n)
 
 
 def length_of_a_comment(n):
@@ -587,6 +598,8 @@ GROWTHS = [
     Row(loads_that_fail, 500),
     Row(removes_of_nothing, 1000),
     Row(removes_from_the_end, 500),
+    Row(removes_under_a_prefix, 500),
+    Row(removes_under_one_prefix_after_another, 500, BOTH, 5.5),
     Row(puts_and_removes, 500),
     Row(publishes_of_nothing, 1000),
     Row(searches, 500),
@@ -775,6 +788,17 @@ def documents_that_are_gone(runs):
     yield "bytes in use after 50,000 documents came and went", after_it - before, -before, 65_536
 
 
+def removes_under_a_prefix_and_single_removes(runs):
+    """To remove names by their beginning takes no more for each name than to remove them one after the other, and of the other names
+    none is looked at."""
+    first = each(b"put a# 1\nx\nput g# 1\nx\n", 2_000) + published(1_000)
+    singly = b"".join(b"remove %s\n" % name for name in sorted(b"f%d" % number for number in range(1_000)))
+    scripts = b"", singly, b"removeunder f\n", b"removeunder f999\n" * 1_000
+    none, singly, together, refused = (runs.instructions(SESSION, first + script + b"publish\n") for script in scripts)
+    yield "instructions to remove 1,000 names by their beginning", together - none, 0, singly - none
+    yield "instructions to remove one name and be refused 999 times", refused - none, 0, 2 * (singly - none)
+
+
 def pages_of_a_document_that_comes_and_goes(runs):
     """A document of some 3,000 trigrams that comes and goes takes its pages once."""
     once = put(b"a", text_of_many_trigrams(440)) + b"publish\nremove a\npublish\n"
@@ -860,13 +884,14 @@ def patterns_are_compiled_once(runs):
     def requests(first, search):
         return runs.memory(SESSION, first + search).requests - runs.memory(SESSION, first).requests
 
-    one, four = (requests(first, b"search [a-z]*q$\n") for first in large)
+    # what a pattern begins with, and can be empty, is not compiled
+    one, four = (requests(first, b"search e[a-z]*q$\n") for first in large)
     yield "requests of a search of four documents", four, one // 2, one + 10
-    for search in b"search [a-z]*xyz\n", b"searchin b$ [a-z]*q$\n", b"searchin ((a*|b)*|c)*b$ [a-z]*xyz\n":
+    for search in b"search e[a-z]*xyz\n", b"searchin b$ e[a-z]*q$\n", b"searchin ((a*|b)*|c)*b$ e[a-z]*xyz\n":
         yield f"requests of {search.decode().strip()}", requests(large[0], search), 0, one // 2
     # more than is shown is in the first lines
     first = put(b"a", b"some text\n" * 2) + large[0]
-    yield "requests of a search with a limit", requests(first, b"find -m 1 -- [a-z]*t$\n"), 0, one // 2
+    yield "requests of a search with a limit", requests(first, b"find -m 1 -- e[a-z]*t$\n"), 0, one // 2
 
 
 def lines_are_matched_once(runs):
@@ -969,16 +994,16 @@ def publishes_of_nothing_hold_nothing(runs):
 
 def searches_beside_others(runs):
     """A search that is asked while no other is open goes on in as many threads as there are readers, and one more; others in one. Its reader
-    is one of them. A session reads in a thread of its own."""
+    is one of them. A session reads in a thread of its own. One thread starts the others, and one waits for a further search."""
     large = b"".join(put(b"f%d" % number, b"some text\n" * 100_000) for number in range(20)) + b"publish\n"
     small = put(b"a", b"some text\n" * 100) + b"publish\n"
     many = large + b"search e.*z\n" * 20
     for way, own in (SCRIPT_BESIDE, 2), (SESSION_BESIDE, 3):
-        yield f"threads of a {way} with a small search", runs.memory(way, small + b"search e.*z\n").threads, own, own
+        yield f"threads of a {way} with a small search", runs.memory(way, small + b"search e.*z\n").threads, own, own + 1
         # (the publish has threads of its own, and a search that no document can match has none)
         none, once, thrice = (runs.memory(way, large + search).threads for search in (b"search yyy\n", b"search e.*z\n", b"search e.*z\nsync\n" * 3))
-        yield f"threads more of a {way} with a large search", once - none, 2, 2
-        yield f"threads more of a {way} with three large searches, one after the other", thrice - none, 6, 6
+        yield f"threads more of a {way} with a large search", once - none, 1, 3
+        yield f"threads more of a {way} with three large searches, one after the other", thrice - none, 5, 7
     # the last of many can be alone, and go on in three threads
     none = runs.memory(SCRIPT_BESIDE, large + b"search yyy\n").threads
     yield f"threads more of a {SCRIPT_BESIDE} with many searches", runs.memory(SCRIPT_BESIDE, many).threads - none, 0, 10
@@ -1016,9 +1041,10 @@ def searches_that_are_too_slow_are_read_once(runs):
 
 
 def clocks_are_looked_at_seldom(runs):
-    """A search with a limit of time looks at the clock for each 64 KiB that is matched, and for each 64 KiB of text, not for each line."""
+    """A search with a limit of time looks at the clock for each 64 KiB that is matched, and for each 64 KiB of text, not for each line. Some
+    looks more are for its turn."""
     made = runs.memory(SESSION_IN_TIME, put(b"a", b"some text\n" * 40_000) + b"publish\nsearch t\n")
-    yield "looks at the clock for 40,000 lines", made.looks, 1, (400_000 + len(made.text)) // 65_536 + 20
+    yield "looks at the clock for 40,000 lines", made.looks, 1, (400_000 + len(made.text)) // 65_536 + 30
 
 
 def answers_of_readers_stand(runs):
@@ -1226,6 +1252,7 @@ CHECKS = [
     documents_that_wait_for_a_publish,
     trigrams_that_one_document_has,
     documents_that_are_gone,
+    removes_under_a_prefix_and_single_removes,
     pages_of_a_document_that_comes_and_goes,
     names_that_are_kept,
     room_under_a_prefix,

@@ -380,11 +380,12 @@ def options_of_a_session():
             same("the status", session.process.wait(SECONDS), 2)
             same("the output", session.process.stdout.read(), b"")
             same("the message", session.process.stderr.read()[: len(begin)], begin)
-    # a session with readers has a thread for each, one that reads, and the first
-    for words, threads in ([], 4), (["--readers", "0"], 1), (["--readers", "1"], 3), (["--readers", "2"], 4), (["--readers", "16"], 18):
+    # a session with readers has a thread for each, one that starts more, one that reads, and the first; and soon a few more, so that
+    # one is without a search
+    for words, least in ([], 5), (["--readers", "0"], 1), (["--readers", "1"], 4), (["--readers", "2"], 5), (["--readers", "16"], 19):
         with Session(*words) as session:
             session.ask(b"search x\n", b"search 1 version 0 lines 0\n")
-            same(f"the threads with {words}", threads_of(session), threads)
+            expect_threads(session, range(least, least + (1 if least == 1 else 5)), f"with {words}")
             session.end(1)
         with Session(*words, "nothing/here") as session:
             session.end(2, b"tsearch: cannot read the script: nothing/here: No such file or directory\n")
@@ -392,22 +393,33 @@ def options_of_a_session():
             session.end(2, b"tsearch: cannot read the script: .: Is a directory\n")
 
 
-def threads_of(session):
-    return len(list(pathlib.Path(f"/proc/{session.pid}/task").iterdir()))
+def expect_threads(session, wanted, how):
+    """Waits until it has so many. Those that were started and have no search to wait for soon end."""
+    end = time.monotonic() + SECONDS
+    while (threads := len(list(pathlib.Path(f"/proc/{session.pid}/task").iterdir()))) not in wanted:
+        if time.monotonic() > end:
+            raise Wrong(f"{how} there are {threads} threads")
+        time.sleep(QUIET)
 
 
 def threads_that_cannot_be_started():
-    """A session with readers has a thread for each, and one that reads. Where the system has no room for the stacks of all of them,
-    fewer readers or none answer, and a client that waits for each answer sees no difference."""
+    """A session with readers has a thread for each, one that starts more, and one that reads. Where the system has no room for the
+    stacks of all of them, fewer answer or none, and a client that waits for each answer sees no difference."""
     limited = ["bash", "-c", 'ulimit -s 100000 && ulimit -v "$0" && exec "$@"']
-    for room, readers, wanted in (10_000_000, 2, [4]), (250_000, 1, [3]), (250_000, 2, [1, 2, 3]), (150_000, 2, [1, 2]), (60_000, 2, [1]), (60_000, 0, [1]):
+    for room, readers, wanted in [
+        (10_000_000, 2, [5, 6, 7, 8, 9]),
+        (350_000, 1, [1, 2, 3, 4]),
+        (350_000, 2, [1, 2, 3, 4]),
+        (250_000, 2, [1, 2, 3]),
+        (150_000, 2, [1, 2]),
+        (60_000, 2, [1]),
+        (60_000, 0, [1]),
+    ]:
         program = [*limited, str(room), str(PROGRAM), "--live", "--readers", str(readers)]
         with Session(program=program) as session:
             for item, text in TALK:
                 session.ask(item, text)
-            threads = threads_of(session)
-            if threads not in wanted:
-                raise Wrong(f"with {room} KB and {readers} readers there are {threads} threads")
+            expect_threads(session, wanted, f"with {room} KB and {readers} readers")
             session.end(2)
 
 

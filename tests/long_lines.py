@@ -1,8 +1,9 @@
 #!/usr/bin/env python3
 """Compares searches of lines that are longer than the matcher takes with GNU grep in the C locale, by each way in which lines are found.
 
-The bodies have lines of lengths round 16,384 bytes, the most that the matcher takes, and round 65,536 bytes, the greatest piece of a
-body, with what is looked for at their front, at their end and over these places. Each pattern is searched as it is, so a small body goes
+The bodies have lines of lengths round 16,384 bytes, the most that the matcher takes, round 65,536 bytes, the greatest piece of a
+body, and round 262,144 bytes, the most that the engine takes of a pattern with many parts, with what is looked for at their front, at
+their end and over these places. Each pattern is searched as it is, so a small body goes
 line by line and a large one by the engine, and once more with an alternative that matches nothing and is too large for the engine, so by
 the simulation or, if the tree is quick, by the matcher, which leaves the long lines to a simulation. The spans are those of `grep -ob`.
 
@@ -51,6 +52,7 @@ def bodies():
     yield "words", b"\n".join((b"needle " * (length // 7 + 1))[:length] for length in LENGTHS) + b"\n"
     yield "alone", b"x" * 99_994 + b"needle"
     yield "behind", b"x" * 200_000 + b"\n" + b"x\n" * 100 + b"needle\n" + b"needle" * 20_000 + b"\ny"
+    yield "longest", b"\n".join(line_of(length, 262_140) for length in (262_143, 262_144, 262_145, 262_150, 270_000))
     yield "small", line_of(8_000, 16) + b"\nneedle\n"
 
 

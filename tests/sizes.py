@@ -291,7 +291,7 @@ def check(test, words, case):
         return f"did not end in {SECONDS} seconds"
     if stderr:
         return f"standard error is {stderr[:200]!r}"
-    differs = difference_of_entries if words[-len(READING) :] == READING else difference
+    differs = difference_of_entries if words[-len(READING) :] in (READING, SESSION_OF_ONE) else difference
     fault = stdout != case.wanted and differs(stdout, case.wanted)
     if fault:
         return fault

@@ -23,7 +23,7 @@ from made_by_hand import Source, test_files
 PAGE = TOP / "docs/PROVED.md"
 ITEM = re.compile(r"^- (\w+) public functions have no `ensures`.*$", re.MULTILINE)
 NAMED = re.compile(r"`([\w:]+)` of `(\w+)`")
-NUMBERS = "No One Two Three Four Five Six Seven Eight Nine Ten Eleven Twelve".split()
+NUMBERS = "No One Two Three Four Five Six Seven Eight Nine Ten Eleven Twelve Thirteen Fourteen Fifteen Sixteen".split()
 
 
 class File(Source):
@@ -69,7 +69,7 @@ class File(Source):
     def owner(self, block):
         """What kind of block this is, the name of its type or trait, and whether what it has may be called from outside; None
         if it is a module."""
-        start = self.start_of_part(block, 0)
+        start = self.start_of_head(block)
         words = self.texts(start, block - start)
         if "trait" in words:
             at = start + words.index("trait")
@@ -81,6 +81,13 @@ class File(Source):
             at = self.after_angles(at)
         head = self.texts(at, block - at)
         return "impl", self.text(at), "for" not in head
+
+    def start_of_head(self, block):
+        """Where what stands before this block begins: after the item or the brace before it. A comma can stand between parameters."""
+        at = block
+        while at > 0 and self.text(at - 1) not in (";", "{", "}"):
+            at -= 1
+        return at
 
     def after_angles(self, at):
         """The place after the angle brackets that begin here."""

@@ -49,7 +49,12 @@ class Neovim:
                     self._answers.put(message[1:])
                 elif message[0] == 2 and message[1] == "redraw":
                     self._redraw(message[2])
+                elif message[0] == 2:
+                    self._note(message[2])
         self._answers.put(None)
+
+    def _note(self, words):
+        """Takes what the plugin tells besides."""
 
     def _redraw(self, batches):
         for name, *events in batches:

@@ -545,6 +545,9 @@ LEGAL_SESSIONS = [
     (REPLACEMENT, {}, OLD + OLD_AGAIN + NEW + NO_OLD, 0),
     (THRICE, {}, AT_3 % 1 + AT_1 % 2 + AT_2 % 3, 1),
     (THRICE, {}, AT_2 % 3 + AT_1 % 2 + AT_3 % 1, 1),
+    # searches that were taken first, and stopped for others
+    (SEARCH_BESIDE, {"readers": 1}, WHAT + X2 + X1 + Y3, 2),
+    (THRICE, {}, AT_3 % 1 + AT_2 % 2 + AT_1 % 3, 1),
     (THRICE, {"readers": 3}, AT_3 % 1 + AT_2 % 2 + AT_1 % 3, 1),
     (THRICE, {"scarce": True}, AT_3 % 1 + AT_2 % 2 + AT_1 % 3, 1),
     (NOT_PLAIN, KNOWN, ALPHA + RANGE + LATER_ALPHA + DIGIT, 2),
@@ -598,9 +601,6 @@ WRONG_SESSIONS = [
     (SEARCH_BESIDE, {}, X1_LATER + WHAT + X2 + Y3, 2),
     (SEARCH_BESIDE, {}, WHAT + X1 + b"search 2 version 1 lines 1\na:1:x\n" + Y3, 2),
     (SEARCH_BESIDE, {}, WHAT + b"search 1 version 3 lines 0\n" + X2 + Y3, 2),
-    # older than what the one reader, or each of two, was answered at
-    (SEARCH_BESIDE, {"readers": 1}, WHAT + X2 + X1 + Y3, 2),
-    (THRICE, {}, AT_3 % 1 + AT_2 % 2 + AT_1 % 3, 1),
     # not the known answer, or the known refusal, or in a place that a sync does not leave to it
     (NOT_PLAIN, KNOWN, ALPHA + RANGE + b"search 3 version 2 lines 1\na:1:x\n" + DIGIT, 2),
     (NOT_PLAIN, KNOWN, ALPHA + b"search 2 refused: bad range at 2\n" + LATER_ALPHA + DIGIT, 2),
@@ -794,6 +794,7 @@ def random_item(chance, asked):
     return chance.choice(
         [b"put %s %d\n%s" % (name, len(text), text)] * 4
         + [b"remove " + name] * 2
+        + [b"removeunder " + chance.choice([b"a", b"A", b"a/", b"a/b", b"ab", b""])]
         + [b"publish"] * 3
         + [b"search " + chance.choice([b"ab", b"^b|a$", b"b+$", b"(ab)*", b"zz"])] * 8
         + [b"searchin %s b" % chance.choice([b"^a", b"b$|c"])]

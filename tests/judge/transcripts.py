@@ -105,6 +105,8 @@ def items_of(script):
             items.append(Item("load", line_number, name=name, path=path))
         elif word == b"remove" and space:
             items.append(Item("remove", line_number, name=rest))
+        elif word == b"removeunder" and space:
+            items.append(Item("removeunder", line_number, name=rest))
         elif word == b"put":
             form = re.fullmatch(rb"(.*) ([0-9]{1,9})", rest)
             reason, end = "bad put", at
@@ -196,6 +198,8 @@ class Run:
             fault = fault or fault_of_body(words["body"], self.lengths)
         if kind == "remove" and not fault and words["name"] not in now:
             fault = "no such file"
+        if kind == "removeunder" and not fault and not any(name.startswith(words["name"]) for name in now):
+            fault = "no such file"
         if kind != "publish" and not fault and len(self.states) > self.max_commands:
             fault = "full"
         return [fault] + scarce
@@ -210,6 +214,8 @@ class Run:
             if item.kind != "remove":
                 after[item.words["name"]] = item.words["body"]
             self.states.append(after)
+        elif item.kind == "removeunder":
+            self.states.append({name: body for name, body in self.states[-1].items() if not name.startswith(item.words["name"])})
 
     def last_published(self, place):
         """The version that the last publish before a place published."""
@@ -426,7 +432,6 @@ class Steps:
         self.items, self.run, self.readers = items, run, readers
         self.at = 0  # the next item
         self.open = {}  # the open searches by their numbers, each with its item and the least version that it may get
-        self.shares = Shares(0 if run.scarce else readers)
 
     def may_take(self, item):
         """With no readers an item waits until nothing is open, and a sync always does. No item is taken while very many are open."""
@@ -498,7 +503,8 @@ class Steps:
         self.at += 1
 
     def answer(self, place, entry, stats):
-        """Answers a search at a version that is published by now, and not older than when it was asked."""
+        """Answers a search at a version that is published by now, and not older than when it was asked. It may be older than an
+        answer before it of its only reader: then it was taken first, and stopped for the other."""
         number, version = self.items[place].number, entry.version
         self.take_search(place)
         item, least = self.open[number]
@@ -510,7 +516,6 @@ class Steps:
             raise Illegal("search %d is answered at version %d, and should be at %d or later" % (number, version, least))
         check_answer(item, entry, self.run, stats)
         del self.open[number]
-        self.shares.take(number, version)
 
     def write(self, place, entry, stats):
         """Takes the steps that lead to an entry."""

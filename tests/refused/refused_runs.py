@@ -1,11 +1,11 @@
 #!/usr/bin/env python3
 """Refuses each request for memory of runs of the built program in turn, and judges what they write.
 
-The script has a replacement, a pending put and syncs; it is run with no readers and with two, and as a session with each. With the Nth
-request refused, a run says that memory ran out, or it writes a text that is legal (transcripts.py) if any item may be refused for memory.
-A session that says that memory ran out has written a legal beginning, with whole entries. None says that a reader has no place, since
-there are as many places as readers. The library of counting.py counts the requests. With readers, the requests of the threads come in
-a different order each time, so these runs are repeated.
+One script has a replacement, a pending put and syncs, another one a remove of several documents; each is run with no readers and with
+two, and as a session with each. With the Nth request refused, a run says that memory ran out, or it writes a text that is legal
+(transcripts.py) if any item may be refused for memory. A session that says that memory ran out has written a legal beginning, with whole
+entries. None says that a reader has no place, since there are as many places as readers. The library of counting.py counts the requests.
+With readers, the requests of the threads come in a different order each time, so these runs are repeated.
 
 Then a body is searched that is so large that the pattern is compiled, which takes some hundreds of requests in a row. If one of
 them is refused, the body is searched line by line and the answer stays the same, also with stars inside stars, in the pattern or in
@@ -36,7 +36,10 @@ from judge import transcripts  # noqa: E402
 from judge.check_transcripts import NEW, NO_OLD, OLD, OLD_AGAIN, REPLACEMENT  # noqa: E402
 from refused import counting  # noqa: E402
 
-WANTED = OLD + OLD_AGAIN + NO_OLD + NEW
+# After a remove of names that are published and not yet published, another name is left.
+REMOVES = put(b"a/x", b"x") + put(b"a/y", b"x") + put(b"b", b"x") + b"publish\n" + put(b"a/z", b"x") + b"removeunder a/\npublish\nsearch x\nsync\n"
+# Scripts, and what they write with memory.
+SCRIPTS = {REPLACEMENT: OLD + OLD_AGAIN + NO_OLD + NEW, REMOVES: b"search 1 version 5 lines 1\nb:1:x\n"}
 NO_MEMORY = b"tsearch: out of memory\n"
 NO_READERS, TWO_READERS = ["--readers", "0"], ["--readers", "2"]
 SESSION, READING = ["--live"] + NO_READERS, ["--live"] + TWO_READERS
@@ -53,8 +56,8 @@ LARGE = b"".join(b"line %d of the body, int x = 0x%08x;\n" % (number, number * 7
 SEARCHES = {
     b"search line 44[0-3] .* 0x00": ("the same", 400),
     b"isearch LINE 44[0-3] .* 0X00": ("the same", 400),
-    b"search ((a*|b)*|c)*0x0034[0-3]": ("the same", 400),
-    b"searchin ((a*|b)*|c)*b$ 0x0034[0-3]": ("the same", 200),
+    b"search 0x((a*|b)*|c)*0034[0-3]": ("the same", 400),
+    b"searchin ^((a*|b)*|c)*b$ 0x0034[0-3]": ("the same", 200),
 }
 
 # Requests of at least this many bytes are large: those for a body of LONG, for the hits of MANY, and for the texts below, and none for
@@ -103,40 +106,40 @@ def run(library, script, words, refused, least=0):
     return done.returncode, done.stdout, messages, int(count)
 
 
-def judged(words, text, **options):
-    """What is wrong with a text of the script with a replacement that a run or a session has written, or None."""
+def judged(script, words, text, **options):
+    """What is wrong with a text of the script that a run or a session has written, or None."""
     how = {"readers": 2 if words in (TWO_READERS, READING) else 0, "session": words in (SESSION, READING)}
-    return transcripts.fault_of(REPLACEMENT, text, 2 if b"refused" in text or options.get("whole") is False else 0, **how, **options)
+    return transcripts.fault_of(script, text, 2 if b"refused" in text or options.get("whole") is False else 0, **how, **options)
 
 
-def outcome(words, status, text, messages):
-    """What became of a run of the script with a replacement, and why that is not allowed, or None."""
+def outcome(script, words, status, text, messages):
+    """What became of a run of the script, and why that is not allowed, or None."""
     if messages == NO_MEMORY:
         is_session = words in (SESSION, READING)
-        fault = judged(words, text, whole=False) if is_session else None if WANTED.startswith(text) else "no beginning"
+        fault = judged(script, words, text, whole=False) if is_session else None if SCRIPTS[script].startswith(text) else "no beginning"
         return messages.decode().strip(), f"{fault}: status {status}, and {text!r} is written" if fault or status != 2 else None
     if messages:
         return "other words", repr(messages)
     if b"out of memory" not in text:
-        return "the same", judged(words, text) or (f"the status is {status}" if status else None)
+        return "the same", judged(script, words, text) or (f"the status is {status}" if status else None)
     if text.count(b"out of memory") != 1:
         return "several items refused", repr(text)
-    return "an item refused", judged(words, text, scarce=True) or (None if status == 2 else f"the status is {status}")
+    return "an item refused", judged(script, words, text, scarce=True) or (None if status == 2 else f"the status is {status}")
 
 
-def outcome_of_request(library, words, refused):
-    """What became of the run of the script with a replacement whose request with this number is refused, and what is wrong, or None."""
-    status, text, messages, count = run(library, REPLACEMENT, words, refused)
-    what, fault = outcome(words, status, text, messages)
+def outcome_of_request(library, script, words, refused):
+    """What became of the run of the script whose request with this number is refused, and what is wrong, or None."""
+    status, text, messages, count = run(library, script, words, refused)
+    what, fault = outcome(script, words, status, text, messages)
     if not 0 < refused <= count and what != "the same":
         fault = "nothing is refused"
     return what, "request %d with %s: %s" % (refused, " ".join(words), fault) if fault else None
 
 
-def each_request(pool, library, words):
+def each_request(pool, library, script, words):
     """Refuses each request in turn, and some more than there are. Returns the outcomes, each with what is wrong with it or None."""
-    *_, count = run(library, REPLACEMENT, words, 0)
-    return list(pool.map(lambda refused: outcome_of_request(library, words, refused), range(count + MORE)))
+    *_, count = run(library, script, words, 0)
+    return list(pool.map(lambda refused: outcome_of_request(library, script, words, refused), range(count + MORE)))
 
 
 def outcome_of_a_search(library, script, wanted, refused):
@@ -201,8 +204,8 @@ def main():
     counted = Counted()
     with tempfile.TemporaryDirectory() as folder, concurrent.futures.ThreadPoolExecutor(os.cpu_count()) as pool:
         library = counting.build(folder)
-        for words, times in TIMES:
-            seen = [it for _ in range(times) for it in each_request(pool, library, words)]
+        for script, (words, times) in itertools.product(SCRIPTS, TIMES):
+            seen = [it for _ in range(times) for it in each_request(pool, library, script, words)]
             outcomes = collections.Counter(what for what, _ in seen)
             print("%s: %s" % (" ".join(words), ", ".join("%s %d" % pair for pair in sorted(outcomes.items()))))
             counted.judge(fault for _, fault in seen)

@@ -27,7 +27,9 @@ from judge import transcripts  # noqa: E402
 from judge.check_transcripts import REPLACEMENT  # noqa: E402
 from refused import counting, refused_runs  # noqa: E402
 
-WRITTEN = refused_runs.WANTED + b"tsearch: written\n"
+# what the run writes with memory
+WHOLE = refused_runs.SCRIPTS[REPLACEMENT]
+WRITTEN = WHOLE + b"tsearch: written\n"
 WANTED = b"no readers\n" + WRITTEN + b"readers\n" + WRITTEN
 FORM = re.compile(rb"no readers\n(.*?)(tsearch: [^\n]*\n)readers\n(.*?)(tsearch: [^\n]*\n)", re.DOTALL)
 
@@ -42,10 +44,10 @@ def run(library, program, refused):
 def outcome(readers, text, word):
     """What became of one of the two runs, and what is wrong with it, or None."""
     if word == refused_runs.NO_MEMORY:
-        return "the run refused", None if refused_runs.WANTED.startswith(text) else "%r is written" % text
+        return "the run refused", None if WHOLE.startswith(text) else "%r is written" % text
     if word != b"tsearch: written\n":
         return "other words", repr(word)
-    if text == refused_runs.WANTED:
+    if text == WHOLE:
         return "the same", None
     return "an item refused", transcripts.fault_of(REPLACEMENT, text, 2, readers=readers, scarce=True)
 

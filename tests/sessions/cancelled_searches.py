@@ -22,9 +22,11 @@ sys.path.insert(0, str(pathlib.Path(__file__).resolve().parent.parent))
 from built import PROGRAM, TOP, put  # noqa: E402
 from counted import Wrong, run_tests  # noqa: E402
 from judge import transcripts  # noqa: E402
-from live import MEBIBYTE, QUIET, SECONDS, Session, faults_with_each, same  # noqa: E402
+from live import MEBIBYTE, QUIET, SECONDS, Session, expect_threads, faults_with_each, same  # noqa: E402
 from sessions.slow_searches import SLOW, TABLE, slow_body  # noqa: E402
 
+# How many searches more than there are readers are begun.
+MORE_BEGUN = 16
 ROUNDS, OPEN, BATCHES = 2, 1_000, 80
 # While so many searches are open, no item is taken.
 MOST_OPEN = 1_024
@@ -132,20 +134,17 @@ def readers_of(start):
 
 
 def every_second_of_many_open_searches(start):
-    """While each reader has a long search, a thousand more are open: long ones, which are all cancelled, and quick ones, which are answered once
-    the readers are free."""
+    """While there is a long search for each reader, a thousand more are asked: long ones, which are all cancelled, in their order, and quick
+    ones, which are all answered."""
     readers = readers_of(start)
     with start() as session:
         talk = Talk(session, readers)
         for _ in range(ROUNDS):
             held = talk.ask(*[LONG_SEARCH] * readers)
             asked = talk.ask(*[LONG_SEARCH, QUICK_SEARCH] * (OPEN // 2))
-            talk.expect_open(readers + OPEN)
             talk.cancel(asked[::2])
-            talk.expect(*(CANCELLED % number for number in asked[::2]))
-            talk.expect_open(readers + OPEN // 2)
             talk.cancel(held)
-            cancelled = [CANCELLED % number for number in held]
+            cancelled = [CANCELLED % number for number in asked[::2] + held]
             got = talk.expect_in_any_order(cancelled + [QUICK % number for number in asked[1::2]])
             same("the order of the cancelled searches", [entry for entry in got if entry in cancelled], cancelled)
             talk.expect_open(0)
@@ -153,12 +152,12 @@ def every_second_of_many_open_searches(start):
 
 
 def cancelled_search_frees_its_reader(start):
-    """All readers have long searches, and a quick one waits. Once the first is cancelled, the quick one is answered. Meanwhile the client asks
-    for statuses, a hundred at most with a pause between them, so that a reader that goes on is found after some seconds."""
-    readers = readers_of(start)
+    """As many long searches are begun as can be, and a quick one waits. Once the first is cancelled, the quick one is answered. Meanwhile the
+    client asks for statuses, a hundred at most with a pause between them, so that a reader that goes on is found after some seconds."""
+    begun = readers_of(start) + MORE_BEGUN
     with start() as session:
-        talk = Talk(session, readers)
-        held, (quick,) = talk.ask(*[LONG_SEARCH] * readers), talk.ask(QUICK_SEARCH)
+        talk = Talk(session, readers_of(start))
+        held, (quick,) = talk.ask(*[LONG_SEARCH] * begun), talk.ask(QUICK_SEARCH)
         session.expect_quiet()
         talk.cancel(held[:1])
         talk.expect(CANCELLED % held[0])
@@ -171,7 +170,7 @@ def cancelled_search_frees_its_reader(start):
         same("the entry of the quick search", entry, QUICK % quick)
         if b" status " not in talk.read():
             raise Wrong("the status has no entry")
-        talk.expect_open(readers - 1)
+        talk.expect_open(begun - 1)
         talk.leave()
 
 
@@ -220,7 +219,7 @@ def a_search_is_given_up_within_one_long_line():
 
 
 def too_slow_within(documents, search):
-    """A search that its documents take far longer than its time is given up. One that does not look at the clock until it is over is answered."""
+    """A search that its documents take far longer than its time is given up."""
     for readers in "1", "0":
         with Session("--readers", readers, "--search-ms", "60") as session:
             session.send(documents + b"publish\n")
@@ -234,7 +233,7 @@ def searches_are_given_up_within_a_document():
 
 
 def searches_are_given_up_before_columns():
-    """The lines are matched without a look at the clock, which takes longer than the search has. No column is looked for then."""
+    """To match the lines takes longer than the search has. No column is looked for then."""
     lines = slow_body(4, 16_000)[:-4].replace(b"\n", b"d\n")
     too_slow_within(put(b"lines", lines), b"find --column -- " + SLOW.replace(b"|^end$", b"|d$") + b"\n")
 
@@ -299,8 +298,7 @@ def cancel_comes_in_its_turn(start):
 
 
 def answer_of_a_cancelled_search_is_dropped(start):
-    """A slow search has one document, so its reader finds its answer before it looks again. The reader then has another search, which has
-    the only answer."""
+    """Its reader may have found the answer of a slow search, or gives it up. The reader then has another search, which has the only answer."""
     readers = readers_of(start)
     with start() as session:
         talk = Talk(session, readers)
@@ -313,13 +311,16 @@ def answer_of_a_cancelled_search_is_dropped(start):
 
 
 def many_cancels_leave_memory_level(start):
-    """Quick searches, each with a cancel right behind it, and statuses. The searches of a first batch are all open at once, since each reader
-    has a long one: so what the searches of a batch take at most does not depend on how busy the readers are."""
+    """Quick searches, each with a cancel right behind it, and statuses. The searches of a first batch are all open at once, since as many long
+    ones as can be are begun, each in a thread: so what the searches of a batch take at most does not depend on how busy the readers are."""
     readers = readers_of(start)
+    begun = readers + MORE_BEGUN
     few = b"".join(put(name, BODIES[name]) for name in [b"quick", *LONG_NAMES[:50]])
     with start() as session:
         talk = Talk(session, readers, documents=few + b"publish\n")
-        numbers = talk.ask(*[LONG_SEARCH] * readers, *[QUICK_SEARCH] * (OPEN - readers))
+        numbers = talk.ask(*[LONG_SEARCH] * begun, *[QUICK_SEARCH] * (OPEN - begun))
+        # each in a thread, beside the first one, the one that reads and the one that starts others
+        expect_threads(session, range(begun + 3, 2_000), f"with {begun} long searches")
         talk.cancel(numbers)
         for _ in numbers:
             talk.read()
@@ -433,17 +434,19 @@ def searches_have_much_time(start):
 
 
 def time_of_a_search_that_waits_for_a_reader():
-    """It counts too: behind a slow search, which its reader does not give up within 64 KiB, a quick one is too slow. The slow one
-    takes some tenths of a second."""
-    documents = put(b"slow", slow_body(4, 16_000)) + put(b"quick", b"hello\n") + b"publish\n"
-    with Session("--readers", "1", "--search-ms", "20") as session:
-        talk = Talk(session, 1, timed=True, documents=documents)
-        talk.ask(SLOW_SEARCH, QUICK_SEARCH)
-        first = talk.read()
-        if first not in (b"search 1 version 2 lines 1\nslow:5:end\n", TOO_SLOW % 1):
-            raise Wrong(f"the slow search has the entry {first!r}")
-        talk.expect(TOO_SLOW % 2)
-        talk.ask_until_answered(b"search %d version 2 lines 1\nquick:1:hello\n")
+    """It counts too: behind long searches, each of which works in its turn until its time is over, a quick one is too slow, at least once in a
+    hundred times: it is asked a little later than they are."""
+    with Session("--readers", "1", "--search-ms", "10") as session:
+        talk = Talk(session, 1, timed=True)
+        for _ in range(100):
+            *numbers, quick = talk.ask(*[LONG_SEARCH] * MORE_BEGUN, QUICK_SEARCH)
+            got = [talk.read() for _ in (*numbers, quick)]
+            is_late = TOO_SLOW % quick in got
+            same("the entries", sorted(got), sorted([TOO_SLOW % number for number in numbers] + [(TOO_SLOW if is_late else QUICK) % quick]))
+            if is_late:
+                break
+        same("that a quick search is too slow", is_late, True)
+        talk.ask_until_answered()
         talk.end(2)
 
 
@@ -454,8 +457,8 @@ def status_behind_very_many_searches_that_are_too_slow():
         numbers = talk.ask(*[LONG_SEARCH] * MOST_OPEN)
         talk.send(b"status\n")
         got = [talk.read() for _ in range(MOST_OPEN + 1)]
-        same("the searches", [entry for entry in got if b"status" not in entry], [TOO_SLOW % number for number in numbers])
-        same("the first entry", got[0], TOO_SLOW % numbers[0])
+        same("the searches", {entry for entry in got if b"status" not in entry}, {TOO_SLOW % number for number in numbers})
+        same("that the first entry is one of them", got[0] in [TOO_SLOW % number for number in numbers], True)
         talk.end(2)
 
 

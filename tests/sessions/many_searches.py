@@ -170,6 +170,26 @@ def searches_beside_replacements(start):
         session.end(0)
 
 
+def open_searches_of_ten_lanes(start):
+    """A thousand searches are open, some of them slow, in ten lanes. Each is answered once."""
+    slow = b"-n ^slow$ -- " + SLOW
+    with start() as session:
+        session.send(put(b"slow", slow_body(1, 4_000)) + put(b"a", b"end") + b"publish\n")
+        for number in range(1, 1_001):
+            session.send(b"find --lane %d %s\n" % (number % 10, slow if number % 7 == 0 else b"-n ^a$ -- ^end$"))
+        missing, rest = set(range(1, 1_001)), b""
+        while missing:
+            rest += session.read(PART)
+            while (end := rest.find(b"\n", rest.find(b"\n") + 1)) >= 0:
+                head, line = rest[:end].split(b"\n")
+                number = int(head.split()[1])
+                if not head.endswith(b" version 2 lines 1") or line != (b"slow:2:end" if number % 7 == 0 else b"a:1:end"):
+                    raise Wrong(f"not an answer: {rest[:end]!r}")
+                missing.remove(number)
+                rest = rest[end + 1 :]
+        session.end(0)
+
+
 def large_answers_that_nobody_reads(start):
     """Of 60 answers, each of which takes two or three MiB, few are in memory while nobody reads. All come once they are read."""
     count, lines = 60, 100_000
@@ -242,7 +262,7 @@ def few_items_behind_a_sync_are_read():
 
 
 TESTS = [client_that_stops_reading, client_that_reads, searches_beside_replacements]
-FEW_READERS = [large_answers_that_nobody_reads, bodies_behind_a_sync]
+FEW_READERS = [large_answers_that_nobody_reads, bodies_behind_a_sync, open_searches_of_ten_lanes]
 ONCE = [few_searches_of_a_session_are_open, few_searches_of_a_run_are_open, few_items_behind_a_sync_are_read]
 
 

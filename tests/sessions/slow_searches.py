@@ -12,9 +12,11 @@ Usage: tests/sessions/slow_searches.py [NAME..]   The last line counts: N passed
 import os
 import pathlib
 import random
+import re
 import subprocess
 import sys
 import threading
+import time
 
 sys.path.insert(0, str(pathlib.Path(__file__).resolve().parent.parent))
 
@@ -85,13 +87,71 @@ def loads_and_removes_are_seen_beside_a_long_search(start):
 
 
 def items_are_taken_while_every_reader_is_at_work():
-    """All of the readers have long searches. One more search is not answered, and the other items are carried out."""
+    """There are more long searches than readers. Searches after them are answered, in turn, and the other items are carried out."""
     for readers in 1, 2, 16:
         with Session("--readers", str(readers)) as session:
-            session.send(LONG + SLOW_SEARCH * readers + put(b"a", b"hi") + b"search h\npublish\n")
-            session.ask(b"search (\n", b"search %d refused: group not closed at 0\n" % (readers + 2))
-            session.ask(b"remove b\n", REFUSED % (AFTER_LONG + readers + 5, b"no such file"))
+            session.send(LONG + SLOW_SEARCH * (readers + 2) + put(b"a", b"hi") + b"publish\n")
+            number = readers + 3
+            for _ in range(3):
+                session.ask(b"searchin ^a i\n", b"search %d version %d lines 1\na:1:hi\n" % (number, LONG_DOCUMENTS + 1))
+                number += 1
+            session.ask(b"search (\n", b"search %d refused: group not closed at 0\n" % number)
+            session.ask(b"remove b\n", REFUSED % (AFTER_LONG + readers + 9, b"no such file"))
             session.expect_quiet()
+
+
+def slow_searches_are_stopped_for_later_ones():
+    """They are stopped between documents, while others are published and found, and have the lines of their own version."""
+    documents = [b"slow%d" % number for number in range(6)]
+    for readers in 1, 2:
+        with Session("--readers", str(readers)) as session:
+            session.send(b"".join(put(name, slow_body(1, 16_000)) for name in documents) + b"publish\n" + SLOW_SEARCH * 4)
+            for number in range(5, 25):
+                session.send(put(b"new", b"hello %d" % number) + b"publish\nsearchin ^new hello\n")
+            for _ in range(24):
+                words = session.read_entry().split()
+                number, version = int(words[1]), int(words[3])
+                if number < 5:
+                    same("a slow search", words[6:], [name + b":2:end" for name in documents])
+                elif not len(documents) + number - 4 <= version <= len(documents) + 20:
+                    raise Wrong(f"search {number} has version {version}")
+                else:
+                    same("a quick search", words[6:], [b"new:1:hello", b"%d" % (version - len(documents) + 4)])
+            session.end(0)
+
+
+def lanes_are_served_one_after_the_other():
+    """Forty long searches of a lane hold up no search of another lane, and no item. Of their own lane few are begun at a time,
+    so a further one is not answered."""
+    long_search = b"find --lane a -n ^slow -- " + SLOW + b"\n"
+    for readers in 1, 2, 16:
+        with Session("--readers", str(readers)) as session:
+            session.send(LONG + long_search * 40 + put(b"a", b"hi") + b"publish\nfind --lane a -n ^a -- i\n")
+            for number in range(42, 52):
+                lane = b"--lane %d " % number if number % 2 else b""
+                session.ask(b"find %s-n ^a -- i\n" % lane, b"search %d version %d lines 1\na:1:hi\n" % (number, LONG_DOCUMENTS + 1))
+            session.ask(b"cancel 41\n", b"search 41 refused: cancelled\n")
+            session.expect_quiet()
+
+
+def times_are_shown():
+    """With `--times` each answer says how long it waited and worked, and by which way. Two slow searches share a reader."""
+    head = re.compile(rb"search (\d+) version 1 lines 1 waited (\d+) worked (\d+) by (engine|matcher|simulation)\n")
+    script = SHORT + SLOW_SEARCH * 2 + b"searchin ^slow ^end$\n"
+    for words in ["--readers", "0"], ["--readers", "1"], ["--live", "--readers", "0"], ["--live", "--readers", "1"]:
+        begun = time.monotonic()
+        done = subprocess.run([PROGRAM, "--times", *words], input=script, capture_output=True, check=True, timeout=SECONDS)
+        taken = 1_000_000 * (time.monotonic() - begun)
+        found = {int(number): (int(waited), int(worked), way) for number, waited, worked, way in head.findall(done.stdout)}
+        same("the searches", sorted(found), [1, 2, 3])
+        same("the ways", [found[number][2] for number in (1, 2)], [b"simulation"] * 2)
+        if sum(worked for _, worked, _ in found.values()) > taken or any(waited + worked > taken for waited, worked, _ in found.values()):
+            raise Wrong(f"{words}: {found} in {taken} microseconds")
+        if found[1][1] < 1_000 or found[3][1] > found[1][1]:
+            raise Wrong(f"{words}: a slow search has not worked longest: {found}")
+        # the second may have been asked some time after the first had begun
+        if words[-1] == "1" and max(found[1][0], found[2][0]) < min(found[1][1], found[2][1]) / 4:
+            raise Wrong(f"{words}: no slow search waited for the other: {found}")
 
 
 def search_is_answered_beside_long_ones_by_the_last_reader():
@@ -245,6 +305,9 @@ WITH_READERS = [
 ]
 ONCE = [
     items_are_taken_while_every_reader_is_at_work,
+    slow_searches_are_stopped_for_later_ones,
+    lanes_are_served_one_after_the_other,
+    times_are_shown,
     search_is_answered_beside_long_ones_by_the_last_reader,
     output_that_fails_while_the_input_is_open,
     slow_search_without_readers,

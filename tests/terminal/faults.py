@@ -57,7 +57,16 @@ class Place:
     def sockets(self):
         """The paths of the sockets of servers."""
         folder = pathlib.Path(self.environment["XDG_RUNTIME_DIR"], "tgrep")
-        return [path for path in folder.iterdir() if stat.S_ISSOCK(path.lstat().st_mode)] if folder.is_dir() else []
+        return [path for path in folder.iterdir() if is_socket(path)] if folder.is_dir() else []
+
+    @property
+    def servers(self):
+        """The processes of the servers that have a socket. One that ends takes its socket and then its lock away."""
+        found = set()
+        for path in self.sockets:
+            with contextlib.suppress(FileNotFoundError):
+                found.add(process_of(f"{path}.lock"))
+        return found
 
     @property
     def server(self):
@@ -73,6 +82,14 @@ def until(holds, seconds=SECONDS):
         if time.monotonic() > end:
             raise Wrong(f"not in {seconds} seconds")
         time.sleep(0.01)
+
+
+def is_socket(path):
+    """Whether a path is that of a socket. It may go at any time."""
+    try:
+        return stat.S_ISSOCK(path.lstat().st_mode)
+    except FileNotFoundError:
+        return False
 
 
 def children_of(process):
@@ -285,9 +302,9 @@ def a_user_has_eight_servers(place):
     words = [["--root", str(number), "foo", str(number)] for number in range(10)]
     servers = []
     for number in 0, 1, 2, 3, 4, 5, 6, 0, 7, 8, 9:
-        before = {process_of(f"{path}.lock") for path in place.sockets}
+        before = place.servers
         place.wants(words[number], 0, b"%d/a:1:foo\n" % number)
-        servers += {process_of(f"{path}.lock") for path in place.sockets} - before
+        servers += place.servers - before
     until(lambda: len(place.sockets) == 8)
     until(lambda: not any(map(is_running, servers[1:3])))
     time.sleep(3)

@@ -1,6 +1,9 @@
 """`--at`, `--changed` and `--diff` of tgrep, with git as the judge."""
 
+import base64
+import json
 import os
+import random
 import re
 import shutil
 import subprocess
@@ -177,7 +180,92 @@ def finds_in_a_patch(folder, environment):
     expect(found, (0, b"src/gone.c:1::-foo gone\n"), "after its session was killed")
 
 
-TESTS = [finds_in_a_commit, finds_in_what_has_changed, finds_in_a_patch]
+ODD = [b"caf\xe9", b"\xff\xfe/x y", b"tab\tname", b'quote"d\\', b"new\nline", "é/ü".encode(), b"-n", b"a/b/c.txt"]
+LINES = [b"foo one", b"foo two", b"int x;", b"int y;", b"\xff foo", b"", b"end foo"]
+
+
+def rows_of_files(top, before, after, pattern):
+    """The same by what git says of each pair of files: side by side, with renames."""
+    words = git(top, "diff", "--name-status", "-z", "-M", before, after).split(b"\0")[:-1]
+    rows = []
+    while words:
+        status = words.pop(0)
+        old = words.pop(0)
+        new = words.pop(0) if status.startswith(b"R") else old
+        if status in (b"A", b"D"):
+            side, sign, name = (after, "+", new) if status == b"A" else (before, "-", old)
+            lines = git(top, "show", os.fsdecode(b"%s:%s" % (side.encode(), name))).split(b"\n")
+            numbered = [(sign, at if sign == "-" else None, at if sign == "+" else None, line) for at, line in enumerate(lines[:-1], 1)]
+        else:
+            numbered = compared(git(top, "diff", "-U100000", "--no-color", os.fsdecode(b"%s:%s" % (before.encode(), old)), os.fsdecode(b"%s:%s" % (after.encode(), new))))
+            if not numbered:
+                lines = git(top, "show", os.fsdecode(b"%s:%s" % (after.encode(), new))).split(b"\n")
+                numbered = [(" ", at, at, line) for at, line in enumerate(lines[:-1], 1)]
+        rows += [(sign, old if left else None, left, new if right else None, right, line) for sign, left, right, line in numbered if re.search(pattern, line)]
+    return sorted(rows, key=repr)
+
+
+def compared(shown):
+    """The lines of a file in a comparison that shows all of them: sign, numbers and text."""
+    old = new = 0
+    rows = []
+    for line in shown.partition(b"\n@@")[2].split(b"\n")[1:]:
+        sign = line[:1].decode()
+        if sign in ("-", "+", " "):
+            old, new = old + (sign != "+"), new + (sign != "-")
+            rows.append((sign, None if sign == "+" else old, None if sign == "-" else new, line[1:]))
+    return rows
+
+
+def bytes_of(told):
+    """A path or a text in JSON."""
+    return base64.b64decode(told["base64"]) if isinstance(told, dict) else told.encode()
+
+
+def rows_of_call(output):
+    """The rows that a call has written."""
+    rows = []
+    for told in map(json.loads, output.splitlines()):
+        sides = [value for side in ("before", "after") for value in ((bytes_of(told[side]["path"]), told[side]["line"]) if side in told else (None, None))]
+        rows.append((told["sign"], *sides, bytes_of(told["text"])))
+    return sorted(rows, key=repr)
+
+
+def finds_in_patches_of_any_history(folder, environment):
+    """Between commits that lead to one another and that have nothing in common, with files that move and change, and paths in no encoding."""
+    source = random.Random(7)
+    top = os.path.join(folder, "odd")
+    os.mkdir(top)
+    git(top, "init", "-q")
+    body = lambda: b"".join(source.choice(LINES) + b"\n" for _ in range(source.randrange(12, 40)))  # noqa: E731
+    files = {name: body() for name in ODD[:5]}
+    for number in range(6):
+        if number:
+            moved = source.choice(sorted(files))
+            lines = files.pop(moved).splitlines(keepends=True)
+            files[source.choice([name for name in ODD if name not in files and name != moved])] = b"".join(lines[:2] + [b"foo moved\n"] + lines[3:])
+            files[source.choice(sorted(files))] = body()
+        git(top, "rm", "-q", "-r", "--cached", "--ignore-unmatch", ".")
+        for name, text in files.items():
+            written = subprocess.run(["git", "hash-object", "-w", "--stdin"], cwd=top, input=text, capture_output=True, check=True).stdout.strip()
+            git(top, "update-index", "--add", "--cacheinfo", b"100644," + written + b"," + name)
+        tree = git(top, "write-tree").decode().strip()
+        # every second commit begins a history of its own
+        parents = ["-p", f"c{number - 1}"] if number % 2 else []
+        commit = git(top, "commit-tree", *parents, "-m", "c", tree).decode().strip()
+        git(top, "tag", f"c{number}", commit)
+    renamed = 0
+    for before, after in ((0, 1), (1, 2), (2, 3), (3, 0), (5, 0), (4, 5)):
+        wanted = rows_of_files(top, f"c{before}", f"c{after}", b"foo")
+        own = run(["--diff", f"c{before}..c{after}", "--json", "foo"], top, environment)
+        if rows_of_call(own[1]) != wanted or own[0] != 0 or own[2]:
+            raise Wrong(f"c{before}..c{after}: {own} and not {wanted}")
+        renamed += sum(row[1] is not None and row[3] is not None and row[1] != row[3] for row in wanted)
+    if renamed < 20:
+        raise Wrong(f"only {renamed} lines of files that have moved")
+
+
+TESTS = [finds_in_a_commit, finds_in_what_has_changed, finds_in_a_patch, finds_in_patches_of_any_history]
 
 
 def check(program):

@@ -3,6 +3,7 @@
 from __future__ import annotations
 
 import contextlib
+import itertools
 import json
 import os
 import pathlib
@@ -14,10 +15,12 @@ import time
 import urllib.error
 import urllib.parse
 import urllib.request
-from collections.abc import Iterator
+from collections.abc import Iterator, Sequence
 
-from helpers import PACKAGE, SECONDS, slow_documents, until
+from helpers import PACKAGE, SECONDS, SLOW, slow_documents, until
 
+# What the process of a session is called: Linux keeps 15 bytes of it.
+PROGRAM = os.path.basename(os.environ.get("TSEARCH", "tsearch"))[:15]
 MARKUP = b"<script>document.title = 'taken over'</script>"
 DOCUMENTS = {
     "one": {
@@ -32,6 +35,13 @@ DOCUMENTS = {
 }
 # What lets a request see all repositories where the server has a header for filters, which the tests call so.
 EVERYTHING = {"X-Filters": json.dumps({name: {} for name in (*DOCUMENTS, "made", "second")})}
+
+
+def _called(pid: str) -> str:
+    """What a process is called; nothing if it has ended."""
+    with contextlib.suppress(FileNotFoundError, ProcessLookupError):
+        return pathlib.Path(f"/proc/{pid}/comm").read_text().strip()
+    return ""
 
 
 class Server:
@@ -49,9 +59,12 @@ class Server:
         return (self.top / "log").read_text()
 
     def programs(self) -> list[int]:
-        """The processes of the sessions, in the order of the repositories."""
-        tasks = pathlib.Path(f"/proc/{self.pid}/task").iterdir()
-        return sorted(int(pid) for task in tasks for pid in (task / "children").read_text().split())
+        """The process of the session. A command that is run meanwhile, as git is, is none."""
+        found = set()
+        for task in pathlib.Path(f"/proc/{self.pid}/task").iterdir():
+            with contextlib.suppress(FileNotFoundError, ProcessLookupError):  # a thread may end at any time
+                found.update((task / "children").read_text().split())
+        return sorted(int(pid) for pid in found if _called(pid) == PROGRAM)
 
     def get(self, path: str, headers: dict[str, str] | None = None) -> tuple[int, bytes, dict[str, str]]:
         """The status, the body and the headers of an answer."""
@@ -79,6 +92,24 @@ class Server:
         hits = [(row, hit) for row in rows for hit in row.get("hits", []) if "around" not in hit]
         return [(row["repository"], row["name"], hit["line"], "".join(hit["parts"])) for row, hit in hits]
 
+    def documents(self, repository: str) -> int:
+        """How many documents a repository has."""
+        seen = json.loads(self.get("/api/status")[1])["repositories"]
+        return next(one["documents"] for one in seen if one["repository"] == repository)
+
+    def make_slow(self, repository: str, seconds: float) -> None:
+        """Adds documents to a repository until the slow search takes so long in it, however fast the machine is."""
+        for turn in itertools.count():
+            began = time.monotonic()
+            self.find(SLOW, repository=repository)
+            if time.monotonic() - began >= seconds:
+                return
+            more, before = slow_documents(100 << turn), self.documents(repository)
+            (self.top / f"{repository}/more-{turn}/slow").mkdir(parents=True)
+            for name, body in more.items():
+                (self.top / f"{repository}/more-{turn}/{name}").write_bytes(body)
+            until(lambda wanted=before + len(more): self.documents(repository) == wanted)
+
 
 def free_port() -> int:
     """A port that nobody listens at."""
@@ -103,8 +134,9 @@ def serving(*options: str) -> Iterator[Server]:
 
 
 @contextlib.contextmanager
-def serving_in(top: pathlib.Path, *words: str, count: int) -> Iterator[Server]:
-    """A server with these words, which serves so many repositories, and has its log in a folder."""
+def serving_in(top: pathlib.Path, *words: str, count: int, loaded: int | None = None, names: Sequence[str] = ()) -> Iterator[Server]:
+    """A server with these words, which serves so many repositories, and has its log in a folder. Once it has loaded all of them, or so many,
+    it is there. With a header for filters it has to be told their names."""
     port = free_port()
     words = ("--port", str(port), "--look", "0.2", *words)
     environment = {**os.environ, "PYTHONPATH": str(PACKAGE)}
@@ -117,8 +149,9 @@ def serving_in(top: pathlib.Path, *words: str, count: int) -> Iterator[Server]:
             if process.poll() is not None:
                 raise AssertionError((top / "log").read_text())
             try:
-                seen = json.loads(server.get("/api/status", EVERYTHING)[1])["repositories"]
-                return len(seen) == count and all(one["loaded"] for one in seen)
+                everything = {"X-Filters": json.dumps({name: {} for name in names})} if names else EVERYTHING
+                seen = json.loads(server.get("/api/status", everything)[1])["repositories"]
+                return len(seen) == count and sum(one["loaded"] for one in seen) >= (count if loaded is None else loaded)
             except (urllib.error.URLError, ConnectionError):
                 time.sleep(0.05)
                 return False

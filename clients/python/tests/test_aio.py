@@ -90,6 +90,8 @@ class Sessions(unittest.IsolatedAsyncioTestCase):
             self.assertEqual(raised.exception.offset, 1)
             with self.assertRaises(tsearch.ChangeRefused):
                 await session.put("", "x")
+            with self.assertRaises(tsearch.ChangeRefused):
+                await session.remove_under("")
             change, bad = await session.put("a", "x"), await session.put("b", b"\0")
             await change.wait()
             with self.assertRaises(tsearch.ChangeRefused):
@@ -101,6 +103,8 @@ class Sessions(unittest.IsolatedAsyncioTestCase):
                     with self.assertRaises(tsearch.PatternRefused):
                         await session.find("a\nb")
             self.assertEqual(len(await session.find("x")), 1)
+            await (await session.remove_under("a")).wait()
+            self.assertEqual((await session.publish()).documents, 0)
 
     async def test_kills(self) -> None:
         documents = {b"f%d" % number: b"line %d\n" % number * 500 for number in range(40)}

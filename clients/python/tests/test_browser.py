@@ -2,11 +2,10 @@
 
 import os
 import signal
-import time
 import unittest
 
 from browsing import Browsing, reason_to_skip
-from helpers import stopped
+from helpers import SLOW
 from serving import serving
 
 
@@ -14,7 +13,7 @@ from serving import serving
 class Page(Browsing):
     @classmethod
     def serve(cls):
-        return cls.enterClassContext(serving("--search-ms", "2000", "--most-lines", "100"))
+        return cls.enterClassContext(serving("--search-ms", "2000", "--most-lines", "100", "--readers", "1"))
 
     def test_typing(self) -> None:
         """A search for each letter, of which the last one stands, however quickly they come."""
@@ -123,14 +122,16 @@ class Page(Browsing):
             self.wait(lambda: not self.server.hits("^changed$"))
 
     def test_a_slow_search_does_not_hold_up_another_visitor(self) -> None:
-        with stopped(self.server.programs()[1]):
-            self.one("#pattern").send_keys("main")
-            time.sleep(0.3)
-            self.assertEqual(self.done(), "")
-            self.assertEqual(len(self.server.hits("int main", repository="one")), 1)
-            # nor the same one, who searches where it is not slow
-            self.one("#repositories label:nth-child(1)").click()
-            self.wait(lambda: [row[2] for row in self.shown()] == ["int main(void)"])
+        self.server.make_slow("two", 1.5)
+        self.one("#pattern").send_keys(SLOW)
+        self.wait(lambda: b"\ntsearch_open_searches 0\n" not in self.server.get("/metrics")[1])
+        self.assertEqual(len(self.server.hits("int main", repository="one")), 1)
+        # that one came first
+        self.assertEqual(self.done(), "")
+        # nor the same one, who searches where it is not slow
+        self.one("#repositories label:nth-child(1)").click()
+        self.wait(lambda: self.done() == SLOW)
+        self.assertEqual(self.one("#status").text, "No line matches.")
 
     def test_many_and_long_lines(self) -> None:
         self.type("many")
@@ -166,10 +167,9 @@ class Page(Browsing):
         told = [entry["message"] for entry in self.browser.get_log("browser")]
         self.assertEqual([message for message in told if "Content Security Policy" in message or "Uncaught" in message], [])
 
-    def test_when_programs_are_killed(self) -> None:
-        """The page asks again until they are there. It is the last test: the processes are others then."""
-        for program in self.server.programs():
-            os.kill(program, signal.SIGKILL)
+    def test_when_the_program_is_killed(self) -> None:
+        """The page asks again until all is there."""
+        os.kill(self.server.programs()[0], signal.SIGKILL)
         self.one("#pattern").send_keys("int main")
         self.wait(lambda: len(self.shown()) == 2)
 

@@ -17,7 +17,7 @@ import unittest.mock
 import zlib
 
 from helpers import PACKAGE, SECONDS, Model, found_in, shown, stop, stopped, until
-from serving import serving
+from serving import DOCUMENTS, serving
 
 import tsearch
 
@@ -245,7 +245,7 @@ class Page(unittest.TestCase):
             until(lambda: server.hits("int other"))
             status, body, _ = server.get(f"/api/file?repository=one&life={head['life']}&version={head['version']}&name=src/main.c")
             self.assertEqual((status, json.loads(body)["lines"][0]), (200, "int main(void)"))
-            self.assertIn(b'tsearch_documents{repository="two"} 102\n', server.get("/metrics")[1])
+            self.assertIn(b'tsearch_documents{repository="two"} %d\n' % (len(DOCUMENTS["two"]) - 1), server.get("/metrics")[1])  # one is binary
 
 
 if __name__ == "__main__":

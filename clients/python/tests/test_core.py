@@ -29,6 +29,7 @@ class Sending(unittest.TestCase):
         self.assertEqual(b"".join(core.put("a b:%", b"x\ny\n")[1]), b"put a%20b:%25 4\nx\ny\n\n")
         self.assertEqual(b"".join(core.load("a", b"/tmp/a b")[1]), b"load a /tmp/a b\n")
         self.assertEqual(b"".join(core.remove(b"\xff\n")[1]), b"remove \xff%0A\n")
+        self.assertEqual(b"".join(core.remove_under("a b/")[1]), b"removeunder a%20b/\n")
         self.assertEqual(b"".join(core.publish()[2]), b"publish\nstatus\n")
         for query, item in (
             (Query.of("o w"), b"find -Z -- o w\n"),
@@ -41,6 +42,8 @@ class Sending(unittest.TestCase):
             (Query.of("x", names_only=True), b"find -Z -l -- x\n"),
             (Query.of("x", counts=True), b"find -Z -c -- x\n"),
             (Query.of("x", header_only=True, limit=1), b"find -Z -q -m 1 -- x\n"),
+            (Query.of("x", limit=1, lane="visitor-7"), b"find -Z -m 1 --lane visitor-7 -- x\n"),
+            (Query.of("x", lane=b"\xff" * 64), b"find -Z --lane " + b"\xff" * 64 + b" -- x\n"),
         ):
             self.assertEqual(core.find(query)[1], [item])
         both = Query.of("x", context=1, spans=True, limit=2).parts()
@@ -59,13 +62,17 @@ class Sending(unittest.TestCase):
             with self.assertRaises(PatternRefused) as raised:
                 core.find(Query.of("x", not_names=name))
             self.assertEqual(raised.exception.offset, 2)
+        for lane in "", "a b", "a\npublish", "a" * 65, "\u00e9" * 33:
+            with self.assertRaises(OptionRefused) as refused:
+                core.find(Query.of("x", lane=lane))
+            self.assertEqual(refused.exception.reason, "option --lane needs a word of 1 to 64 bytes")
         # as in the program, name patterns come first
         for query, number in (Query.of("a\nb", "c d", "e f"), 1), (Query.of("a\nb", "c", "e f"), 2), (Query.of("a\nb", "c", "e"), 0):
             with self.assertRaises(PatternRefused) as raised:
                 core.find(query)
             self.assertEqual((raised.exception.number, raised.exception.offset), (number, 1))
         for name, reason in (b"", "name empty"), (b"n" * 4_097, "name too long"), (b" " * 1_366, "name too long"):
-            for call in (lambda: core.put(name, b""), lambda: core.remove(name), lambda: core.load(name, b"x")):
+            for call in (lambda: core.put(name, b""), lambda: core.remove(name), lambda: core.remove_under(name), lambda: core.load(name, b"x")):
                 with self.assertRaises(ChangeRefused) as raised:
                     call()
                 self.assertEqual((raised.exception.reason, raised.exception.name), (reason, name))

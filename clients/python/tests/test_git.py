@@ -271,6 +271,20 @@ class Revisions(unittest.TestCase):
         kept.refresh()
         self.session.publish()
         self.expect(named(made, "main"))
+        # the branches are where they were before
+        before = made.git("rev-parse", "main")
+        made.commit("main", {b"src/main.c": b"int again;\n", b"new": None})
+        steps = objects.steps()
+        for step in steps:
+            self.session.remove(step.name) if step.body is None else self.session.put(step.name, step.body)
+            if step.done == 1:
+                break
+        steps.close()
+        made.git("update-ref", "refs/heads/main", before)
+        made.files["main"] = {**made.files["main"], b"src/main.c": b"int changed;\n", b"new": b"new\n"}
+        kept.refresh()
+        self.session.publish()
+        self.expect(named(made, "main"))
 
     def test_with_asyncio(self) -> None:
         made = self.made

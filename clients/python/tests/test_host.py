@@ -51,7 +51,7 @@ class Repositories(Host):
         """Its files, and not what it is made of."""
         server = self.serve(str(self.made.path))
         rows = server.find("int main|repositoryformatversion")
-        head = {"repository": "made", "life": 1, "version": 4, "lines": 1, "more": False, "loaded": True, "revision": "HEAD", "commit": self.first}
+        head = {"repository": "made", "life": 1, "version": 4, "lines": 1, "more": False, "revision": "HEAD", "commit": self.first}
         self.assertEqual(rows[0], head)
         self.assertEqual([row["name"] for row in rows if "hits" in row], ["src/main.c"])
         status, told = self.view(server, self.first, "src/main.c")

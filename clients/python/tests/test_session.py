@@ -112,6 +112,21 @@ class Answers(unittest.TestCase):
                 session.remove(name).wait(SECONDS)
             self.assertEqual(session.publish().documents, 0)
 
+    def test_names_under_a_prefix(self) -> None:
+        """Names are compared as they are given, not as they are sent."""
+        names = [b"%41/b", b"%41", b"A/b", b"a b/c", b"a b", b"a/b", b"\xff/a", b"\xff"]
+        for prefix in b"%", b"%41/", b"A", b"a", b"a ", b"a b/c", b"\xff", b"\xff/", b"x", b"a%":
+            left = [name for name in names if not name.startswith(prefix)]
+            with self.subTest(prefix), tsearch.Session() as session:
+                for name in names:
+                    session.put(name, b"x")
+                change = session.remove_under(prefix)
+                self.assertEqual(change.name, prefix)
+                published = session.publish()
+                self.assertEqual([refusal.reason for refusal in published.refused], ["no such file"] * (left == names))
+                self.assertEqual((published.documents, published.accepted), (len(left), len(names) + (left != names)))
+                self.assertEqual(sorted(session.find("x", names_only=True).names()), sorted(left))
+
     def test_escaped_texts(self) -> None:
         """The pattern that is made of a text finds this text alone, whatever its bytes mean in a pattern."""
         texts = [b"a%cb" % byte for byte in range(1, 256) if byte != 10] + [b"ab", b"aab", b"a{2}b", b"a(b)c", b"[ab]", b"^a$"]

@@ -1,26 +1,50 @@
 """The server of the page, asked without a browser."""
 
 import concurrent.futures
+import dataclasses
 import importlib.util
+import itertools
 import json
 import os
 import pathlib
+import random
 import re
 import signal
 import socket
 import time
 import unittest
 import unittest.mock
+import urllib.parse
 
 from helpers import SECONDS, SLOW, stopped, until
-from serving import MARKUP, serving
+from serving import DOCUMENTS, MARKUP, serving
+
+# How many files of the second repository are documents: one is binary.
+TEXTS = len(DOCUMENTS["two"]) - 1
+
+
+def plain_rows(answer, repository: str, is_whole: bool, start: bytes) -> list[dict]:
+    """The files of an answer with spans, as the page is to have them."""
+    from tsearch.shortening import LONGEST, shortened
+
+    files = []
+    for name, rows in itertools.groupby(filter(None, answer.rows()), key=lambda row: row.hit.name):
+        hits = []
+        for hit, is_found in rows:
+            is_cut = len(hit.text) > LONGEST and not is_whole
+            parts = shortened(hit.text, hit.spans or ()) if is_cut else hit.parts()
+            told = {"line": hit.line, "parts": [part.decode(errors="replace") for part in parts]}
+            hits.append({**told, **({"cut": True} if is_cut else {}), **({} if is_found else {"around": True})})
+        path = name.removeprefix(start)
+        files.append({"repository": repository, "name": path.decode(errors="replace"), "id": urllib.parse.quote(path), "hits": hits})
+    return files
 
 
 @unittest.skipUnless(importlib.util.find_spec("aiohttp"), "the library aiohttp is missing (python3-aiohttp)")
 class Web(unittest.TestCase):
     @classmethod
     def setUpClass(cls) -> None:
-        cls.server = cls.enterClassContext(serving("--search-ms", "1500", "--most-lines", "50"))
+        cls.server = cls.enterClassContext(serving("--search-ms", "5000", "--most-lines", "50"))
 
     def test_searches(self) -> None:
         hits = self.server.hits
@@ -41,7 +65,7 @@ class Web(unittest.TestCase):
     def test_marks_and_totals(self) -> None:
         rows = self.server.find("main|count", repository="two")
         head, row, total = rows
-        self.assertEqual((head["repository"], head["lines"], head["more"], head["loaded"]), ("two", 1, False, True))
+        self.assertEqual((head["repository"], head["lines"], head["more"]), ("two", 1, False))
         self.assertEqual(row["hits"], [{"line": 1, "parts": ["int ", "main", "(int ", "count", ")"]}])
         self.assertEqual((total["lines"], total["more"]), (1, False))
         self.assertEqual(self.server.find("in.", w=1, repository="two")[1]["hits"][0]["parts"], ["", "int", " main(", "int", " count)"])
@@ -133,23 +157,57 @@ class Web(unittest.TestCase):
     def test_marks_of_longer_lines_than_marks_may_be(self) -> None:
         """What the lines have does not count."""
         from tsearch.answers import Answer, View
-        from tsearch.web.server import _documents
+        from tsearch.web.rows import blocks_of
 
         text = b"x" * 2_000_000 + b"foo"
         answer = Answer(1, 1, 1, False, View.CONTEXT, b"a\0001:" + text + b"\n", spans_data=b"a\0001:2000001-2000003:" + text + b"\n")
-        (hit,) = next(_documents(answer, False))["hits"]
+        (hit,) = json.loads(next(blocks_of(answer, "r", False)))["hits"]
         self.assertEqual((hit["parts"][1], hit["cut"]), ("foo", True))
 
     def test_many_marks(self) -> None:
         """Answers whose marks would be too many are shown without."""
-        rows = self.server.find("[xy]|many", max=1, name="wide", whole=1)
+        rows = self.server.find("[xy]|many", repository="one", max=1, name="wide", whole=1)
         self.assertEqual(len(rows[1]["hits"][0]["parts"]), 32_001)
-        with unittest.mock.patch("tsearch.web.server._MOST_SPANS", 100):
+        with unittest.mock.patch("tsearch.web.rows._MOST_SPANS", 100):
             from tsearch.answers import Answer, View
-            from tsearch.web.server import _documents
+            from tsearch.query import Query
+            from tsearch.web.marks import marks_of
+            from tsearch.web.rows import blocks_of
 
             answer = Answer(1, 1, 1, False, View.CONTEXT, b"a\0001:xx\n", spans_data=b"a\0001:" + b"1-1," * 40 + b"1-1:xx\n")
-            self.assertEqual(next(_documents(answer, False))["hits"], [{"line": 1, "parts": ["xx"]}])
+            self.assertEqual(json.loads(next(blocks_of(answer, "r", False)))["hits"], [{"line": 1, "parts": ["xx"]}])
+        with unittest.mock.patch("tsearch.web.rows._MOST_MARKS", 3):
+            marks = marks_of(Query.of("x", context=0, spans=True))
+            answer = Answer(1, 1, 3, False, View.CONTEXT, b"a\0001:xyx\na\0002:xx\na\0003:x\n")
+            parts = [hit["parts"] for hit in json.loads(next(blocks_of(answer, "r", False, b"", marks)))["hits"]]
+            self.assertEqual(parts, [["", "x", "y", "x", ""], ["", "x", "", "x", ""], ["x"]])
+
+    def test_rows_of_any_bytes(self) -> None:
+        """They are what a plain reading of the answer says, in blocks of any length."""
+        from tsearch.answers import Answer, View
+        from tsearch.names import quote
+        from tsearch.query import Query
+        from tsearch.web import rows
+        from tsearch.web.marks import marks_of
+
+        source, marks = random.Random(6), marks_of(Query.of("x", context=1, spans=True))
+        bits = [b"x", b"a b", b"\t", b"\\", b'"', b"\\n", b"\\u0000", "\u00e9".encode(), b"\xc3", b"\xa9", b"\xe2\x82", b"\xff", b"\x01", b"\r", b"--", b"12:", b"7-", b"y" * 400]
+        names = [b"a", b"--", b"b c/d%e", b'q"\\', b"caf\xe9", b"1-2:3", b"n\nl"]
+        for turn in range(300):
+            data, spans = [], []
+            for name in sorted(map(quote, source.sample(names, source.randint(0, 4)))):
+                for line in sorted(source.sample(range(1, 2_000), source.randint(1, 9))):
+                    texts = [b"".join(source.choices(bits, k=length)) for length in (0, 2, 9)]
+                    text, sign = source.choice([*texts, *texts, b"x" + b"y" * source.randint(998, 1_000)]), source.choice([b":", b"-"])
+                    data.append((b"--\n" if data and source.random() < 0.3 else b"") + b"1::%s\0%d%s%s\n" % (name, line, sign, text))
+                    if sign == b":":
+                        told = b",".join(b"%d-%d" % (found.start() + 1, found.end()) for found in re.finditer(b"x", text))
+                        spans.append(b"1::%s\0%d:%s:%s\n" % (name, line, told, text))
+            answer = Answer(1, 1, len(spans), False, View.CONTEXT, b"".join(data), spans_data=b"".join(spans))
+            asked = dataclasses.replace(answer, spans_data=None) if turn % 2 else answer
+            with unittest.mock.patch.object(rows, "BLOCK", source.choice([1, 30, 500, 1 << 16])):
+                found = b"".join(rows.blocks_of(asked, "r", turn % 3 == 0, b"1::", marks if turn % 2 else None))
+            self.assertEqual([json.loads(line) for line in found.split(b"\n")[:-1]], plain_rows(answer, "r", turn % 3 == 0, b"1::"))
 
     def test_a_slow_search_does_not_hold_up_others(self) -> None:
         with concurrent.futures.ThreadPoolExecutor(8) as pool:
@@ -162,36 +220,44 @@ class Web(unittest.TestCase):
                 self.assertLess(len(search.result()), 4)
 
     def test_the_search_before_is_cancelled(self) -> None:
-        with concurrent.futures.ThreadPoolExecutor(2) as pool, stopped(self.server.programs()[1]):
-            slow = pool.submit(self.server.find, "main", visitor="a", turn=2)
-            time.sleep(0.3)
-            self.assertEqual(len(self.server.hits("int main", visitor="a", turn=3, repository="one")), 1)
-            self.assertEqual(slow.result(), [{"refused": "cancelled"}])
+        with concurrent.futures.ThreadPoolExecutor(3) as pool:
+            with stopped(self.server.programs()[0]):
+                slow = pool.submit(self.server.find, "main", visitor="a", turn=2)
+                time.sleep(0.3)
+                later = pool.submit(self.server.hits, "int main", visitor="a", turn=3)
+                self.assertEqual(slow.result(), [{"refused": "cancelled"}])
+            self.assertEqual(len(later.result()), 2)
             # one of an earlier turn that comes late gives way
-            slow = pool.submit(self.server.find, "main", visitor="a", turn=5)
-            time.sleep(0.3)
-            self.assertEqual(self.server.find("int main", visitor="a", turn=4), [{"refused": "cancelled"}])
-            self.assertEqual(len(self.server.hits("int main", visitor="b", turn=1, repository="one")), 1)
-            self.assertFalse(slow.done())
-            self.server.find("x", visitor="a", turn=6, repository="one")
-            self.assertEqual(slow.result(), [{"refused": "cancelled"}])
+            with stopped(self.server.programs()[0]):
+                slow = pool.submit(self.server.find, "main", visitor="a", turn=5)
+                time.sleep(0.3)
+                other = pool.submit(self.server.hits, "int main", visitor="b", turn=1)
+                self.assertEqual(self.server.find("int main", visitor="a", turn=4), [{"refused": "cancelled"}])
+                self.assertFalse(slow.done())
+                later = pool.submit(self.server.find, "x", visitor="a", turn=6)
+                self.assertEqual(slow.result(), [{"refused": "cancelled"}])
+            self.assertEqual((len(other.result()), later.result()[-1]["lines"]), (2, 50))
 
     def test_a_visitor_who_leaves(self) -> None:
         """Their searches are cancelled in the program."""
         host, port = self.server.address.removeprefix("http://").split(":")
         before = self.metric("tsearch_web_searches_total", outcome="cancelled")
-        with stopped(self.server.programs()[1]):
-            for _ in range(3):
-                with socket.create_connection((host, int(port))) as visitor:
-                    visitor.sendall(b"GET /api/find?q=main HTTP/1.1\r\nHost: localhost\r\n\r\n")
-                    time.sleep(0.2)
-            time.sleep(0.5)
-        until(lambda: self.metric("tsearch_web_searches_total", outcome="cancelled") >= before + 3)
-        until(lambda: self.metric("tsearch_open_searches", repository="two") == 0)
+
+        def leave() -> float:
+            # one whose request was not read in time counts for nothing
+            with socket.create_connection((host, int(port))) as visitor:
+                visitor.sendall(b"GET /api/find?q=main HTTP/1.1\r\nHost: localhost\r\n\r\n")
+                time.sleep(0.2)
+            return self.metric("tsearch_web_searches_total", outcome="cancelled")
+
+        with stopped(self.server.programs()[0]):
+            until(lambda: leave() >= before + 3)
+        until(lambda: self.metric("tsearch_open_searches") == 0)
 
     def metric(self, name: str, **labels: str) -> float:
         shown = ",".join(f'{key}="{value}"' for key, value in labels.items())
-        found = re.search(rf"^{re.escape(f'{name}{{{shown}}}')} (\S+)$", self.server.get("/metrics")[1].decode(), re.MULTILINE)
+        labelled = f"{name}{{{shown}}}" if labels else name
+        found = re.search(rf"^{re.escape(labelled)} (\S+)$", self.server.get("/metrics")[1].decode(), re.MULTILINE)
         self.assertIsNotNone(found, (name, labels))
         return float(found[1])
 
@@ -205,9 +271,10 @@ class Web(unittest.TestCase):
                 found = re.fullmatch(r'(\w+?)(?:_bucket|_sum|_count)?(\{\w+="[^"]*"(,\w+="[^"]*")*\})? [0-9.e+-]+', line)
                 self.assertIsNotNone(found, line)
                 self.assertIn(found[1], kinds)
-        self.assertEqual(self.metric("tsearch_documents", repository="two"), 102)
+        self.assertEqual(self.metric("tsearch_documents", repository="two"), TEXTS)
         self.assertEqual(self.metric("tsearch_left_out_files", repository="two"), 1)
-        self.assertEqual(self.metric("tsearch_up", repository="one"), 1)
+        self.assertEqual(self.metric("tsearch_document_bytes", repository="one"), sum(map(len, DOCUMENTS["one"].values())))
+        self.assertEqual(self.metric("tsearch_up"), 1)
         before = self.metric("tsearch_web_searches_total", outcome="answered")
         self.server.find("x")
         self.assertEqual(self.metric("tsearch_web_searches_total", outcome="answered"), before + 1)
@@ -249,7 +316,7 @@ class Turns(unittest.TestCase):
         with serving("--most-searches", "1", "--most-lines", "100000") as server:
             for number in range(4):
                 (server.top / f"two/large{number}").write_bytes(b"a few words of a long file, and so on\n" * 25_000)
-            until(lambda: server.get("/metrics")[1].count(b'tsearch_documents{repository="two"} 106'))
+            until(lambda: server.get("/metrics")[1].count(b'tsearch_documents{repository="two"} %d\n' % (TEXTS + 4)))
             host, port = server.address.removeprefix("http://").split(":")
             with socket.create_connection((host, int(port))) as visitor:
                 visitor.sendall(b"GET /api/find?q=words&repository=two HTTP/1.1\r\nHost: localhost\r\n\r\n")
@@ -271,6 +338,12 @@ class Changes(unittest.TestCase):
             history.publish({b"a"}, version)
         kept = [history.at(b"a", version) for version in range(100)]
         self.assertEqual([found and found.data for found in kept], [None] * 90 + [b"%0100d" % (version + 1) for version in range(90, 100)])
+        # of one that could not be read it is known that it has changed
+        history.change(b"b", None)
+        self.assertFalse(history.is_current(b"b", 100))
+        history.publish({b"b"}, 101)
+        self.assertEqual([history.is_current(b"b", version) for version in (100, 101)], [False, True])
+        self.assertIsNone(history.at(b"b", 100))
 
     def test_files_of_the_answer_s_version(self) -> None:
         with serving() as server:
@@ -298,9 +371,8 @@ class Changes(unittest.TestCase):
     def test_a_program_that_is_killed(self) -> None:
         with serving() as server:
             head = server.find("int main", repository="one")[0]
-            self.assertEqual(len(server.programs()), 2)
-            for pid in server.programs():
-                os.kill(pid, signal.SIGKILL)
+            (program,) = server.programs()
+            os.kill(program, signal.SIGKILL)
             until(lambda: len(server.hits("int main")) == 2)
             after = server.find("int main", repository="one")[0]
             self.assertEqual((head["life"], after["life"]), (1, 2))
@@ -309,12 +381,13 @@ class Changes(unittest.TestCase):
             self.assertEqual(status, 410)
             status, _, _ = server.get(f"/api/file?repository=one&life=2&version={after['version']}&name=src/main.c")
             self.assertEqual(status, 200)
-            self.assertIn(b'tsearch_restarts_total{repository="one"} 1\n', server.get("/metrics")[1])
+            self.assertIn(b"tsearch_restarts_total 1\n", server.get("/metrics")[1])
+            self.assertEqual(server.log.count("it is started again"), 1)
 
     def test_too_slow(self) -> None:
         with serving("--search-ms", "1") as server:
             pathlib.Path(server.top, "two/large").write_bytes(b"a few words of a long file, and so on\n" * 25_000)
-            until(lambda: server.get("/metrics")[1].count(b'tsearch_documents{repository="two"} 103'))
+            until(lambda: server.get("/metrics")[1].count(b'tsearch_documents{repository="two"} %d\n' % (TEXTS + 1)))
             slow = "a.*b.*c.*d.*e.*f"
             until(lambda: server.find(slow, search_ms="99999", repository="two") == [{"refused": "too slow", "milliseconds": 1}])
             # it is named beside the answer of the other

@@ -3,6 +3,7 @@
 from __future__ import annotations
 
 import asyncio
+import collections
 import contextlib
 import itertools
 import os
@@ -219,7 +220,7 @@ class Change:
 
     @property
     def name(self) -> bytes:
-        """The name of the document."""
+        """The name of the document, or the prefix of a `remove_under`."""
         assert self._sent.name is not None
         return self._sent.name
 
@@ -259,6 +260,11 @@ class Changes:
     def __init__(self, connection: _Connection) -> None:
         self._connection = connection
 
+    @property
+    def life(self) -> int:
+        """How often the program was started. Versions are counted from 0 in each life."""
+        return self._connection.life
+
     async def put(self, name: str | bytes, body: str | bytes) -> Change:
         """Adds a document, or replaces the one of this name. The body is bytes, or text that is sent as UTF-8."""
         data = body.encode() if isinstance(body, str) else bytes(body)
@@ -275,6 +281,12 @@ class Changes:
         """Removes a document."""
         connection = self._connection
         return Change(connection, await connection.send(lambda core: core.remove(name)))
+
+    async def remove_under(self, prefix: str | bytes) -> Change:
+        """Removes each document whose name begins with the prefix. It is one change; it is refused if there is no such document, and
+        for a prefix that cannot be a name, as the empty one."""
+        connection = self._connection
+        return Change(connection, await connection.send(lambda core: core.remove_under(prefix)))
 
     async def mark(self) -> Awaitable[object]:
         """Marks what was sent until now. Whoever awaits what is given back waits until the program has carried all of it out. `Ended`."""
@@ -346,11 +358,6 @@ class Session(Changes):
         """A session over streams that lead to a program started elsewhere with --live, to which nothing was sent before. Such a
         session cannot be restarted."""
         return cls(_Connection(reader, writer, None, 1, most_open, None), None)
-
-    @property
-    def life(self) -> int:
-        """How often the program was started. Versions are counted from 0 in each life."""
-        return self._connection.life
 
     @property
     def pid(self) -> int | None:
@@ -482,7 +489,11 @@ async def _published(connection: _Connection) -> Published:
 
 
 class Kept:
-    """Keeps what a source has in a session or a cluster, as `tsearch.folder.Kept` does. A thread reads the source."""
+    """Keeps what a source has in a session or a cluster, as `tsearch.folder.Kept` does. A thread reads the source.
+
+    before_change: is awaited with the name of each document that is there and is about to be replaced or removed.
+    published: is called with each publish, at once.
+    """
 
     def __init__(
         self,
@@ -490,13 +501,37 @@ class Kept:
         source: Source,
         progress: Progress | None = None,
         before_change: Callable[[bytes], Awaitable[object]] | None = None,
+        published: Callable[[Published], object] | None = None,
     ) -> None:
         self._session = session
         self._source = source
         self._progress = progress or (lambda done, of: None)
         self._before_change = before_change
+        self._published = published or (lambda published: None)
         self._lock = asyncio.Lock()
         self._is_pending = False
+        # steps that the source has given and that are not sent; some stay where a call before them fails
+        self._unsent: collections.deque[Step] = collections.deque()
+        # how often the program was started that has what the source knows of
+        self._life = 0
+        # not while a publish may have been carried out that `published` has not been told of
+        self.settled = asyncio.Event()
+        self.settled.set()
+
+    @property
+    def life(self) -> int:
+        """How often the program was started that has what was sent last."""
+        return self._life
+
+    @property
+    def is_pending(self) -> bool:
+        """Whether something was sent that no publish of this source has shown."""
+        return self._is_pending
+
+    @property
+    def totals(self) -> tuple[int, int]:
+        """How many documents were sent, and the bytes of their files."""
+        return self._source.totals
 
     @property
     def left_out(self) -> dict[bytes, str]:
@@ -508,16 +543,46 @@ class Kept:
         return await self._refresh(self._source.steps)
 
     async def _refresh(self, look: Callable[[], Iterator[Step]]) -> Refreshed:
-        async with self._lock, self._session.feeding:
-            put, removed = await self._send(self._session, self._before_change, look())
-            published = None
-            if put or removed or self._is_pending:
-                published = await self._session.publish()
-                self._is_pending = False
-                published = await self._remove(published) or published
-            else:
+        async with self._lock:
+            changes = _changes_of(self._session)
+            if changes.life != self._life:
+                # another program, which has nothing of it
+                self._source.forget()
+                self._unsent.clear()
+                self._life, self._is_pending, look = changes.life, False, self._source.steps
+            steps = look()
+            if not await self._has_more(steps) and not self._is_pending:
                 await self._session.status()  # it may have ended
+                return Refreshed(0, 0, self._source.take_news(), None)
+            # who else changes the session waits only from here on
+            async with self._session.feeding:
+                put, removed = await self._send(changes, self._before_change, steps)
+                published = await self._publish()
             return Refreshed(put, removed, self._source.take_news(), published)
+
+    async def _publish(self) -> Published:
+        self.settled.clear()
+        try:
+            published = await self._session.publish()
+            if published.life != self._life:
+                raise Ended(None)
+            self._is_pending = False
+            self._published(published)
+            if without := await self._remove(published):
+                published = without
+                self._published(published)
+            return published
+        finally:
+            self.settled.set()
+
+    async def drop(self) -> None:
+        """Removes all documents of the source from the session. There is nothing to be done with it then."""
+        async with self._lock, self._session.feeding:
+            if self._session.life == self._life:
+                for name in self._source.documents():
+                    await self._session.remove(name)
+                await self._session.publish()
+            self._source.forget()
 
     async def restart(self) -> Published | None:
         """Starts the program again if it has ended, and sends all documents. For a session with this source alone. None if the program
@@ -541,37 +606,45 @@ class Kept:
 
     async def _feed(self, changes: Changes) -> None:
         self._source.forget()
+        self._unsent.clear()
+        self._life = changes.life
         await self._send(changes, None, self._source.steps())
         self._is_pending = True
+
+    async def _has_more(self, steps: Iterator[Step]) -> bool:
+        """Reads on in the source. Whether there are steps to be sent."""
+        await asyncio.to_thread(_take_some, steps, self._unsent)
+        return bool(self._unsent)
 
     async def _send(
         self, changes: Changes | Cluster, before_change: Callable[[bytes], Awaitable[object]] | None, steps: Iterator[Step]
     ) -> tuple[int, int]:
         put = removed = 0
         loaded: Awaitable[object] | None = None
-        while batch := await asyncio.to_thread(_some_of, steps):
-            for name, body, done, of, path in batch:
-                self._is_pending = True
-                if done % BATCH == 0 and loaded:
-                    # while the program has the next ones
-                    await loaded
-                    self._progress(done - BATCH, of)
-                    loaded = await changes.mark()
-                elif not loaded:
-                    self._progress(done, of)
-                if before_change and not self._source.is_new(name):
-                    await before_change(name)
-                if path is not None:
-                    assert isinstance(changes, Changes)
-                    loaded = loaded or await changes.mark()
-                    await changes.load(name, path)
-                    put += 1
-                elif body is None:
-                    await changes.remove(name)
-                    removed += 1
-                else:
-                    await changes.put(name, body)
-                    put += 1
+        while self._unsent or await self._has_more(steps):
+            name, body, done, of, path = self._unsent[0]
+            self._is_pending = True
+            if done % BATCH == 0 and loaded:
+                # while the program has the next ones
+                await loaded
+                self._progress(done - BATCH, of)
+                loaded = await changes.mark()
+            elif not loaded:
+                self._progress(done, of)
+            if before_change and not self._source.is_new(name):
+                await before_change(name)
+            if path is not None:
+                assert isinstance(changes, Changes)
+                loaded = loaded or await changes.mark()
+                await changes.load(name, path)
+                put += 1
+            elif body is None:
+                await changes.remove(name)
+                removed += 1
+            else:
+                await changes.put(name, body)
+                put += 1
+            self._unsent.popleft()
         if loaded:
             await (await changes.mark())
         if put or removed:
@@ -589,7 +662,7 @@ class Kept:
 class Folder(Kept):
     """Keeps the text files of a folder in a session or a cluster, as `tsearch.Folder` does.
 
-    before_change: is awaited with the name of each document that is there and is about to be replaced or removed.
+    before_change, published: as for `Kept`.
     follows: whether symbolic links are followed.
     is_apart: whether the rules of the folders above it do not hold.
     """
@@ -603,13 +676,14 @@ class Folder(Kept):
         git: bool | None = None,
         progress: Progress | None = None,
         before_change: Callable[[bytes], Awaitable[object]] | None = None,
+        published: Callable[[Published], object] | None = None,
         follows: bool = False,
         is_apart: bool = False,
         loads: bool | None = None,
     ) -> None:
         can_load = isinstance(session, Session) and session.pid is not None
         self._files = Files(root, prefix, git, follows, is_apart, can_load if loads is None else loads)
-        super().__init__(session, self._files, progress, before_change)
+        super().__init__(session, self._files, progress, before_change, published)
 
     @property
     def root(self) -> bytes:
@@ -637,6 +711,7 @@ class Review:
         self._held: set[bytes] = set()
         # the last publish of its documents
         self.published: Published | None = None
+        self._is_closed = False
 
     @classmethod
     async def open(
@@ -664,12 +739,18 @@ class Review:
         """Puts the documents. Copies of revisions that the session has would have their place here."""
         documents = self.patch.documents()
         async with self._session.feeding:
+            changes = _changes_of(self._session)
+            if self.published and self.published.life == changes.life:
+                return  # another search has done it
             while batch := await asyncio.to_thread(lambda: list(itertools.islice(documents, BATCH))):
                 for name, body in batch:
                     self._held.add(name)
-                    await self._session.put(self._prefix + name, body)
-            self.published = await self._session.publish()
-        self._held -= refused_in(self.patch, self._prefix, self.published.refused)
+                    await changes.put(self._prefix + name, body)
+            published = await self._session.publish()
+            if published.life != changes.life:
+                raise Ended(None)  # that to which they were sent
+            self.published = published
+        self._held -= refused_in(self.patch, self._prefix, published.refused)
 
     async def find(self, pattern: str | bytes, **options: Unpack[Options]) -> Found:
         """The lines with a match, as `tsearch.review.Review.find` gives them, with its errors."""
@@ -681,11 +762,14 @@ class Review:
             # the program was started again, without them
             await self._fill()
             answer = await self._session.find_query(query_in(self._prefix, asked))
+        if self._is_closed:
+            raise Error("the review is closed")
         files = await asyncio.to_thread(lambda: list(self.patch.files(answer, self._prefix)))
         return Found(answer.version, *cut(wanted_by(asked, files), asked.limit))
 
     async def close(self) -> None:
-        """Removes the documents. A second call does nothing."""
+        """Removes the documents. A second call does nothing. `find` raises `Error` from then on."""
+        self._is_closed = True
         async with self._session.feeding:
             held, self._held = self._held, set()
             for name in held:
@@ -711,9 +795,10 @@ class Revisions(Kept):
         *,
         prefix: str | bytes = b"",
         progress: Progress | None = None,
+        published: Callable[[Published], object] | None = None,
     ) -> None:
         self._objects = Objects(Store(path), wanted, prefix)
-        super().__init__(session, self._objects, progress)
+        super().__init__(session, self._objects, progress, None, published)
 
     @property
     def objects(self) -> Objects:
@@ -721,13 +806,16 @@ class Revisions(Kept):
         return self._objects
 
 
-def _some_of(steps: Iterator[Step]) -> list[Step]:
-    """The next steps, of a few mebibytes at most."""
-    batch: list[Step] = []
+def _changes_of(session: Session | Cluster) -> Changes | Cluster:
+    """What changes the documents of the program that runs now, and of none that is started after it."""
+    return Changes(session._connection) if isinstance(session, Session) else session
+
+
+def _take_some(steps: Iterator[Step], unsent: collections.deque[Step]) -> None:
+    """Takes the next steps, of a few mebibytes at most."""
     size = 0
     for step in itertools.islice(steps, BATCH):
-        batch.append(step)
+        unsent.append(step)
         size += len(step.body or b"")
         if size > _BATCH:
             break
-    return batch

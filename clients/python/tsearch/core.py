@@ -47,7 +47,7 @@ class Sent:
 
     def __init__(self, line: int, name: bytes | None = None) -> None:
         self.line = line
-        # of a put, a load or a remove: the document's, as it was given
+        # of a put, a load or a remove: the document's, or the prefix, as it was given
         self.name = name
         # of a status: it follows a publish, and tells what was refused
         self.is_of_publish = False
@@ -135,6 +135,10 @@ class Core:
     def remove(self, name: str | bytes) -> tuple[Sent, list[bytes]]:
         """A remove. `ChangeRefused` at once for a bad name."""
         return self._item(to_bytes(name), [b"remove %s\n" % checked(name)])
+
+    def remove_under(self, prefix: str | bytes) -> tuple[Sent, list[bytes]]:
+        """A remove of all documents whose names begin with the prefix. `ChangeRefused` at once for a prefix that is a bad name."""
+        return self._item(to_bytes(prefix), [b"removeunder %s\n" % checked(prefix)])
 
     def publish(self) -> tuple[Sent, Sent, list[bytes]]:
         """A publish and a status behind it, by which the publish and all before it are known to be carried out."""
@@ -268,7 +272,9 @@ class Core:
     def _take_lines(self, coming: _Coming, data: bytes, at: int) -> int:
         """Takes rows of the answer that is coming, and gives where it has come to."""
         count = data.count(b"\n", at)
-        end = len(data) if count < coming.left else after_line(data, at, coming.left)
+        # mostly nothing follows the last row
+        is_all = count == coming.left and data.endswith(b"\n")
+        end = len(data) if count < coming.left or is_all else after_line(data, at, coming.left)
         if coming.search.is_wanted:
             try:
                 (coming.search.take or self._keeper_of(coming))(data[at:end])

@@ -33,11 +33,12 @@ class PatternRefused(Refused):
 
 
 class OptionRefused(Refused):
-    """The options of a search exclude each other, a number is out of its range, or there are over 16 of `names` or of `not_names`."""
+    """The options of a search exclude each other, a number is out of its range, a lane is no word, or there are over 16 of `names` or of
+    `not_names`."""
 
 
 class ChangeRefused(Refused):
-    """A put, a load or a remove is refused. `name` is the document's."""
+    """A put, a load or a remove is refused. `name` is the document's, or the prefix of a `remove_under`."""
 
     def __init__(self, reason: str, name: bytes) -> None:
         super().__init__(reason, name)

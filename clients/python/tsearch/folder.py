@@ -71,6 +71,13 @@ class Source(Protocol):
 
     left_out: dict[bytes, str]
 
+    @property
+    def totals(self) -> tuple[int, int]:
+        """How many documents there are, and the bytes of their files."""
+
+    def documents(self) -> list[bytes]:
+        """The names of all documents."""
+
     def forget(self) -> None:
         """A new program has nothing of it."""
 
@@ -109,7 +116,9 @@ class Files:
         # how many bytes of text the files had at a first look, as far as the beginnings of the large ones tell
         self.text_bytes = 0
         self.left_out: dict[bytes, str] = {}
-        self.held: set[bytes] = set()
+        # with their lengths
+        self.held: dict[bytes, int] = {}
+        self._bytes = 0
         # those of them that were sent once since the last publish, and never before
         self._new: set[bytes] = set()
         # those of them that a session writes in another way
@@ -122,10 +131,20 @@ class Files:
     def forget(self) -> None:
         """A new program has nothing of the folder."""
         self.held.clear()
+        self._bytes = 0
         self._new.clear()
         self.quoted.clear()
         self._known.clear()
         self._recent.clear()
+
+    @property
+    def totals(self) -> tuple[int, int]:
+        """How many documents there are, and the bytes of their files."""
+        return len(self.held), self._bytes
+
+    def documents(self) -> list[bytes]:
+        """The names of all documents."""
+        return [self.prefix + name for name in self.held]
 
     def steps(self) -> Iterator[Step]:
         """Looks through the folder, and gives what makes the session's documents those of the folder, to be sent in this order."""
@@ -182,7 +201,7 @@ class Files:
             if loads and self._can_be_loaded(name, file, began):
                 # if it changes before it is loaded, its stamp has changed too, and the next look puts it
                 self.left_out.pop(name, None)
-                self._hold(name)
+                self._hold(name, file.stamp.size)
                 self._known[name] = file.stamp
                 yield Step(self.prefix + name, None, at, len(gone) + len(changed), file.path)
                 continue
@@ -229,17 +248,18 @@ class Files:
         for name, reason in listing.faults.items():
             self._leave_out(name, reason)
 
-    def _hold(self, name: bytes) -> None:
+    def _hold(self, name: bytes, size: int) -> None:
         if name in self.held:
             self._new.discard(name)
         else:
             self._new.add(name)
-        self.held.add(name)
+        self._bytes += size - self.held.get(name, 0)
+        self.held[name] = size
         if names.quote(name) != name:
             self.quoted.add(name)
 
     def _drop(self, name: bytes) -> None:
-        self.held.discard(name)
+        self._bytes -= self.held.pop(name, 0)
         self._new.discard(name)
         self.quoted.discard(name)
 
@@ -270,7 +290,7 @@ class Files:
             self._recent[name] = now
         self._known[name] = file.stamp
         if before != now or name not in self.held:
-            self._hold(name)
+            self._hold(name, len(body))
             yield body
 
     def _without(self, name: bytes, reason: str) -> Iterator[None]:
@@ -384,6 +404,8 @@ class Kept:
         self._progress = progress or (lambda done, of: None)
         self._lock = threading.Lock()
         self._is_pending = False
+        # how often the program was started that has what the source knows of
+        self._life = 0
 
     @property
     def left_out(self) -> dict[bytes, str]:
@@ -395,6 +417,9 @@ class Kept:
         """Looks at the source, sends what has changed, and publishes it. A search that is sent afterwards sees all of it. `Ended` if the
         program has ended: then `restart`. `PublishRefused` if there is no memory for the publish: the next `refresh` publishes again."""
         with self._lock, self._session.feeding:
+            if self._session.life != self._life:
+                self._source.forget()
+                self._life = self._session.life
             put, removed = self._send(self._session)
             published = None
             if put or removed or self._is_pending:
@@ -424,6 +449,7 @@ class Kept:
 
     def _feed(self, changes: Changes) -> None:
         self._source.forget()
+        self._life = changes.life
         self._send(changes)
         self._is_pending = True
 

@@ -230,26 +230,39 @@ class Objects:
         self.wanted = tuple(wanted)
         # the commit of each revision that the session has
         self.commits: dict[str, str] = {}
-        # of the look before, if that has seen all
-        self._stamp: frozenset[tuple[bytes, int, int, int]] | None = None
+        # of the look before, if that has seen all, and what was wanted then
+        self._seen: tuple[frozenset[tuple[bytes, int, int, int]], tuple[str, ...]] | None = None
         self.left_out: dict[bytes, str] = {}
-        self.held: dict[str, set[bytes]] = {}
+        # the paths of each revision, with the lengths of the files
+        self.held: dict[str, dict[bytes, int]] = {}
+        self._bytes = 0
         self._new: set[bytes] = set()
         self._news: list[LeftOut] = []
 
     def forget(self) -> None:
         """A new program has nothing of the repository."""
-        self._stamp = None
-        self.commits.clear()
+        self._seen = None
+        self.commits = {}
+        self.left_out.clear()
         self.held.clear()
+        self._bytes = 0
         self._new.clear()
+
+    @property
+    def totals(self) -> tuple[int, int]:
+        """How many documents there are, and the bytes of their files."""
+        return sum(map(len, list(self.held.values()))), self._bytes
+
+    def documents(self) -> list[bytes]:
+        """The names of all documents."""
+        return [self.prefix + self._start(revision) + path for revision, paths in self.held.items() for path in paths]
 
     def steps(self) -> Iterator[Step]:
         """Looks at the revisions, and gives what makes the session's documents those of their commits now."""
-        began, stamp = time.time_ns(), self.store.stamp()
-        if stamp == self._stamp:
+        began, stamp, wanted = time.time_ns(), self.store.stamp(), self.wanted
+        if (stamp, wanted) == self._seen:
             return
-        now = self.store.commits(self.wanted)
+        now = self.store.commits(wanted)
         gone = [one for one in self.held if one not in now]
         removed = [name for revision in gone for name in self._removed(revision)]
         put: list[tuple[bytes, Entry]] = []
@@ -260,15 +273,16 @@ class Objects:
                 removed += [start + path for path in changed if changed[path] is None and path in self.held[revision]]
                 self._pass_over(start, changed)
                 put += [(start + path, entry) for path, entry in changed.items() if entry is not None]
+        # of a look that fails midway it is not known which documents were sent: the next one sends all of these revisions
+        self._seen, self.commits = None, {revision: commit for revision, commit in self.commits.items() if now.get(revision) == commit}
         yield from self._steps(removed, put)
-        # a look that fails midway is made again from the commits before
         self.commits = now
         for revision in gone:
             del self.held[revision]
         # a file that changes twice within a tick of the clock has another number, mostly
         is_settled = all(modified <= began - TICK for _, modified, _, _ in stamp)
-        is_whole = all(_is_glob(name) or name in now for name in self.wanted)
-        self._stamp = stamp if is_settled and is_whole else None
+        is_whole = all(_is_glob(name) or name in now for name in wanted)
+        self._seen = (stamp, wanted) if is_settled and is_whole else None
 
     def _start(self, revision: str) -> bytes:
         return names.to_bytes(revision) + b":"
@@ -284,14 +298,14 @@ class Objects:
         """What a revision has at a commit otherwise than the session has it. A copy of the documents of another revision, from which this
         one differs least, has its place here."""
         before = self.commits.get(revision)
-        held = self.held.setdefault(revision, set())
+        held = self.held.setdefault(revision, {})
         if before is not None:
             try:
                 return self.store.changes(before, commit)
             except NoRepository:  # git has dropped the commit
                 pass
         files = self.store.files(commit)
-        return {**dict.fromkeys(held - files.keys()), **files}
+        return {**dict.fromkeys(held.keys() - files.keys()), **files}
 
     def _pass_over(self, start: bytes, changed: Mapping[bytes, Entry | None]) -> None:
         """What is left out no longer is, if it has changed."""
@@ -330,7 +344,8 @@ class Objects:
         revision, path = _split(name)
         held = self.held[revision]
         (self._new.discard if path in held else self._new.add)(name)
-        held.add(path)
+        self._bytes += len(body) - held.get(path, 0)
+        held[path] = len(body)
         yield Step(self.prefix + name, body, done, of)
 
     def _without(self, name: bytes, reason: str, done: int, of: int) -> Iterator[Step]:
@@ -341,9 +356,9 @@ class Objects:
     def _drop(self, name: bytes) -> bool:
         """Notes that the session has a document no longer. Whether it had it, as far as is known."""
         revision, path = _split(name)
-        held = self.held.get(revision, set())
+        held = self.held.get(revision, {})
         was_held = path in held
-        held.discard(path)
+        self._bytes -= held.pop(path, 0)
         self._new.discard(name)
         return was_held
 

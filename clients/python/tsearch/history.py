@@ -29,13 +29,15 @@ class History:
         self._begins: dict[bytes, int] = {}
         self._changing: dict[bytes, int] = {}
 
-    def change(self, name: bytes, answer: Answer) -> None:
-        """Notes that a document is about to change, and keeps it as it has been until now. Only the first of several changes before a
-        publish counts."""
+    def change(self, name: bytes, answer: Answer | None) -> None:
+        """Notes that a document is about to change, and keeps it as it has been until now, if that could be read. Only the first of several
+        changes before a publish counts."""
         if name in self._changing:
             return
         begin = self._begins.get(name, 0)
         self._changing[name] = begin
+        if answer is None:
+            return
         self._kept[name, begin] = _Kept(begin, None, answer)
         self._size += len(answer.data)
         while self._size > self._most and len(self._kept) > 1:

@@ -3,6 +3,7 @@
 from __future__ import annotations
 
 import dataclasses
+import itertools
 import math
 import operator
 import re
@@ -17,6 +18,8 @@ _GAP_ROW = GAP + b"\n"
 # The rows of a document, at most so many that no time is lost if it has more: those behind them are found by steps that grow.
 _FIRST_ROWS = re.compile(rb"(?:--\n)?(?P<name>[^\0\n]+\0)[^\n]*\n(?:(?:--\n)?(?P=name)[^\n]*\n){0,15}")
 _DIGITS = b"0123456789"
+# What stands behind the name of a line that was found.
+_FOUND = re.compile(rb"\0\d+:")
 
 
 class Split(NamedTuple):
@@ -59,6 +62,25 @@ def merged(query: Query, found: list[Split], version: int) -> Answer:
 def _sum(numbers: Iterable[int | None]) -> int | None:
     known = [number for number in numbers if number is not None]
     return sum(known) if known else None
+
+
+def parted(answer: Answer, starts: Iterable[bytes]) -> list[Answer]:
+    """The parts of an answer, of lines with context: that of the documents whose quoted names begin with each of some texts. No name begins
+    with two, and each has two colons, at its end and before that."""
+    data, spans, blocks, at = answer.data, answer.spans_data, {}, 0
+    for start, places in itertools.groupby(split(answer).places, key=lambda place: _start_of(data, place[0])):
+        begin, *_, end = (number for place in places for number in (place[0], place[2]))
+        rows = data[begin:end]
+        count = len(_FOUND.findall(rows))
+        before, at = at, after_line(spans, at, count) if spans else at
+        blocks[start] = dataclasses.replace(answer, count=count, more=False, data=rows, spans_data=spans and spans[before:at])
+    none = dataclasses.replace(answer, count=0, more=False, data=b"", spans_data=spans and b"")
+    return [blocks.get(start, none) for start in starts]
+
+
+def _start_of(data: bytes, begin: int) -> bytes:
+    """What a name begins with, to its second colon."""
+    return data[begin : data.index(b":", data.index(b":", begin) + 1) + 1]
 
 
 def cut(answer: Answer, limit: int, context: int) -> Answer:

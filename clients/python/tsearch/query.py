@@ -9,10 +9,11 @@ from dataclasses import dataclass
 from typing import TypedDict
 
 from .answers import View
-from .errors import PatternRefused
+from .errors import OptionRefused, PatternRefused
 from .names import quote, to_bytes
 
 MAX_PATTERN = 1_024
+_LANE = re.compile(rb"[^ \n]{1,64}")
 _SPECIAL = re.compile(rb"[\\^$.[|()*+?{]")
 
 Patterns = str | bytes | Iterable[str] | Iterable[bytes] | Iterable[str | bytes]
@@ -36,6 +37,7 @@ class Options(TypedDict, total=False):
     names_only: bool
     counts: bool
     header_only: bool
+    lane: str | bytes | None
 
 
 def escape(text: str | bytes) -> bytes:
@@ -72,11 +74,15 @@ class Query:
     names_only: bool = False
     counts: bool = False
     header_only: bool = False
+    lane: bytes | None = None
 
     @classmethod
-    def of(cls, pattern: str | bytes, names: Patterns = (), not_names: Patterns = (), **options: bool | int | None) -> Query:
+    def of(
+        cls, pattern: str | bytes, names: Patterns = (), not_names: Patterns = (), lane: str | bytes | None = None, **options: bool | int | None
+    ) -> Query:
         """The query for the arguments of `find`."""
-        return cls(to_bytes(pattern), names=_list_of(names), not_names=_list_of(not_names), **options)  # type: ignore[arg-type]
+        queue = None if lane is None else to_bytes(lane)
+        return cls(to_bytes(pattern), names=_list_of(names), not_names=_list_of(not_names), lane=queue, **options)  # type: ignore[arg-type]
 
     @property
     def view(self) -> View:
@@ -99,8 +105,11 @@ class Query:
         return [dataclasses.replace(self, spans=False), dataclasses.replace(self, context=None, column=False)]
 
     def item(self) -> bytes:
-        """The item. `PatternRefused` for what would be something else, or would be too long to be sent."""
+        """The item. `PatternRefused` for what would be something else, or would be too long to be sent, and `OptionRefused` for such a
+        lane."""
         self._check()
+        if self.lane is not None and not _LANE.fullmatch(self.lane):
+            raise OptionRefused("option --lane needs a word of 1 to 64 bytes")
         flags = {
             b"-i": self.ignore_case,
             b"-F": self.literal,
@@ -118,6 +127,7 @@ class Query:
         words = [b"find -Z", *[word for word, is_on in flags.items() if is_on]]
         words += [b"-n " + name for name in self.names] + [b"-N " + name for name in self.not_names]
         words += [b"%s %d" % (word, number) for word, number in ((b"-m", self.limit), (b"-C", self.context)) if number is not None]
+        words += [b"--lane " + self.lane] if self.lane else []
         return b" ".join([*words, b"--", self.pattern]) + b"\n"
 
     def pattern_at(self, number: int) -> bytes:

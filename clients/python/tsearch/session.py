@@ -342,7 +342,7 @@ class Change:
 
     @property
     def name(self) -> bytes:
-        """The name of the document."""
+        """The name of the document, or the prefix of a `remove_under`."""
         assert self._sent.name is not None
         return self._sent.name
 
@@ -393,6 +393,11 @@ class Changes:
     def __init__(self, connection: _Connection) -> None:
         self._connection = connection
 
+    @property
+    def life(self) -> int:
+        """How often the program was started. Versions are counted from 0 in each life."""
+        return self._connection.life
+
     def put(self, name: str | bytes, body: str | bytes) -> Change:
         """Adds a document, or replaces the one of this name. The body is bytes, or text that is sent as UTF-8."""
         data = body.encode() if isinstance(body, str) else bytes(body)
@@ -409,6 +414,12 @@ class Changes:
         """Removes a document."""
         connection = self._connection
         return Change(connection, connection.send(lambda core: core.remove(name)))
+
+    def remove_under(self, prefix: str | bytes) -> Change:
+        """Removes each document whose name begins with the prefix. It is one change; it is refused if there is no such document, and
+        for a prefix that cannot be a name, as the empty one."""
+        connection = self._connection
+        return Change(connection, connection.send(lambda core: core.remove_under(prefix)))
 
     def mark(self) -> Callable[[], object]:
         """Marks what was sent until now. What is given back waits until the program has carried all of it out, and raises `Ended`."""
@@ -494,11 +505,6 @@ class Session(Changes):
         return _Connection(reading, writing, process, life, self._most_open, self._messages, self._max_answer)
 
     @property
-    def life(self) -> int:
-        """How often the program was started. Versions are counted from 0 in each life."""
-        return self._connection.life
-
-    @property
     def pid(self) -> int | None:
         """The number of the program's process, if this session started it."""
         process = self._connection.process
@@ -563,6 +569,9 @@ class Session(Changes):
         names_ignore_case: ASCII letters match both their cases in these.
         limit: at most so many lines, or names, from 1; the program stops once it has them, and `answer.more` says whether there are more.
 
+        Whose it is:
+        lane: a word of 1 to 64 bytes, without a space; lanes are served one after the other, however many searches wait in each.
+
         What is shown, instead of lines:
         context: so many lines, 0 to 1,000, before and after each line too, in `answer.rows()`.
         column: `hit.column`, where the first match begins.
@@ -571,8 +580,8 @@ class Session(Changes):
         counts: these names with the numbers of their lines, in `answer.counts()`.
         header_only: nothing but `answer.count` and `answer.more`.
 
-        `PatternRefused` for a pattern that cannot be read, `OptionRefused` for options that exclude each other, for numbers out of their
-        range and for over 16 name patterns of a kind, `TooSlow` after the time of `search_ms`, `SearchRefused` if the program has no
+        `PatternRefused` for a pattern that cannot be read, `OptionRefused` for options that exclude each other, for numbers and lanes
+        out of their range and for over 16 name patterns of a kind, `TooSlow` after the time of `search_ms`, `SearchRefused` if the program has no
         memory for it, `Error` if two searches were not of one version in 100 tries, and `Ended`.
         """
         return self.find_query(Query.of(pattern, **options), timeout=timeout)

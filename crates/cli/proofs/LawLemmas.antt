@@ -22,6 +22,7 @@ one_spelling arguments one other is is' = record {
   max_body = is.found.max_body ∙ sym is'.found.max_body;
   max_line = is.found.max_line ∙ sym is'.found.max_line;
   max_name = is.found.max_name ∙ sym is'.found.max_name;
+  times = same_truth _ one.times other.times is.found.times is'.found.times;
   file = is.found.file ∙ sym is'.found.file;
 }
 

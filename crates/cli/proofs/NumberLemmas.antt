@@ -102,10 +102,10 @@ module _ (old : Command) (m : ArgMatches) (p : IsParsedFrom old m) (options : Ha
 
 abbrev option_names : List (List ℕ)
 option_names = codes "readers" ∷ codes "stats" ∷ codes "max-commands" ∷ codes "live" ∷ codes "search-ms" ∷ codes "max-body"
-    ∷ codes "max-line" ∷ codes "max-name" ∷ codes "FILE" ∷ []
+    ∷ codes "max-line" ∷ codes "max-name" ∷ codes "times" ∷ codes "FILE" ∷ []
 
-nine_options : (c : Command) → HasOptions c → length (args_of c) ≡ 9
-nine_options c options = sym (length-map (args_of c) (λ (a : Arg). a.id.now)) ∙ ap length options.names
+ten_options : (c : Command) → HasOptions c → length (args_of c) ≡ 10
+ten_options c options = sym (length-map (args_of c) (λ (a : Arg). a.id.now)) ∙ ap length options.names
 
 name_at : (c : Command) → HasOptions c → (j : ℕ) (e : Arg) → j < length (args_of c)
     → (slice_index_or (args_of c) j e).id.now ≡ slice_index_or option_names j []
@@ -116,7 +116,7 @@ first_of : (xs : List Arg) → 0 < length xs → Arg
 first_of [] lt = absurd (omega arith)
 first_of (x ∷ xs) lt = x
 
-readers_alone : (j : ℕ) → j < 9 → bytes_eq (slice_index_or option_names j []) (codes "readers") ≡ true → j ≡ 0
+readers_alone : (j : ℕ) → j < 10 → bytes_eq (slice_index_or option_names j []) (codes "readers") ≡ true → j ≡ 0
 readers_alone zero lt same = refl
 readers_alone (suc zero) lt same = cc
 readers_alone (suc (suc zero)) lt same = cc
@@ -126,9 +126,10 @@ readers_alone (suc (suc (suc (suc (suc zero))))) lt same = cc
 readers_alone (suc (suc (suc (suc (suc (suc zero)))))) lt same = cc
 readers_alone (suc (suc (suc (suc (suc (suc (suc zero))))))) lt same = cc
 readers_alone (suc (suc (suc (suc (suc (suc (suc (suc zero)))))))) lt same = cc
-readers_alone (suc (suc (suc (suc (suc (suc (suc (suc (suc n))))))))) lt same = absurd (omega arith)
+readers_alone (suc (suc (suc (suc (suc (suc (suc (suc (suc zero))))))))) lt same = cc
+readers_alone (suc (suc (suc (suc (suc (suc (suc (suc (suc (suc n)))))))))) lt same = absurd (omega arith)
 
-max_commands_alone : (j : ℕ) → j < 9 → bytes_eq (slice_index_or option_names j []) (codes "max-commands") ≡ true → j ≡ 2
+max_commands_alone : (j : ℕ) → j < 10 → bytes_eq (slice_index_or option_names j []) (codes "max-commands") ≡ true → j ≡ 2
 max_commands_alone zero lt same = cc
 max_commands_alone (suc zero) lt same = cc
 max_commands_alone (suc (suc zero)) lt same = refl
@@ -138,9 +139,10 @@ max_commands_alone (suc (suc (suc (suc (suc zero))))) lt same = cc
 max_commands_alone (suc (suc (suc (suc (suc (suc zero)))))) lt same = cc
 max_commands_alone (suc (suc (suc (suc (suc (suc (suc zero))))))) lt same = cc
 max_commands_alone (suc (suc (suc (suc (suc (suc (suc (suc zero)))))))) lt same = cc
-max_commands_alone (suc (suc (suc (suc (suc (suc (suc (suc (suc n))))))))) lt same = absurd (omega arith)
+max_commands_alone (suc (suc (suc (suc (suc (suc (suc (suc (suc zero))))))))) lt same = cc
+max_commands_alone (suc (suc (suc (suc (suc (suc (suc (suc (suc (suc n)))))))))) lt same = absurd (omega arith)
 
-search_ms_alone : (j : ℕ) → j < 9 → bytes_eq (slice_index_or option_names j []) (codes "search-ms") ≡ true → j ≡ 4
+search_ms_alone : (j : ℕ) → j < 10 → bytes_eq (slice_index_or option_names j []) (codes "search-ms") ≡ true → j ≡ 4
 search_ms_alone zero lt same = cc
 search_ms_alone (suc zero) lt same = cc
 search_ms_alone (suc (suc zero)) lt same = cc
@@ -150,9 +152,10 @@ search_ms_alone (suc (suc (suc (suc (suc zero))))) lt same = cc
 search_ms_alone (suc (suc (suc (suc (suc (suc zero)))))) lt same = cc
 search_ms_alone (suc (suc (suc (suc (suc (suc (suc zero))))))) lt same = cc
 search_ms_alone (suc (suc (suc (suc (suc (suc (suc (suc zero)))))))) lt same = cc
-search_ms_alone (suc (suc (suc (suc (suc (suc (suc (suc (suc n))))))))) lt same = absurd (omega arith)
+search_ms_alone (suc (suc (suc (suc (suc (suc (suc (suc (suc zero))))))))) lt same = cc
+search_ms_alone (suc (suc (suc (suc (suc (suc (suc (suc (suc (suc n)))))))))) lt same = absurd (omega arith)
 
-max_body_alone : (j : ℕ) → j < 9 → bytes_eq (slice_index_or option_names j []) (codes "max-body") ≡ true → j ≡ 5
+max_body_alone : (j : ℕ) → j < 10 → bytes_eq (slice_index_or option_names j []) (codes "max-body") ≡ true → j ≡ 5
 max_body_alone zero lt same = cc
 max_body_alone (suc zero) lt same = cc
 max_body_alone (suc (suc zero)) lt same = cc
@@ -162,9 +165,10 @@ max_body_alone (suc (suc (suc (suc (suc zero))))) lt same = refl
 max_body_alone (suc (suc (suc (suc (suc (suc zero)))))) lt same = cc
 max_body_alone (suc (suc (suc (suc (suc (suc (suc zero))))))) lt same = cc
 max_body_alone (suc (suc (suc (suc (suc (suc (suc (suc zero)))))))) lt same = cc
-max_body_alone (suc (suc (suc (suc (suc (suc (suc (suc (suc n))))))))) lt same = absurd (omega arith)
+max_body_alone (suc (suc (suc (suc (suc (suc (suc (suc (suc zero))))))))) lt same = cc
+max_body_alone (suc (suc (suc (suc (suc (suc (suc (suc (suc (suc n)))))))))) lt same = absurd (omega arith)
 
-max_line_alone : (j : ℕ) → j < 9 → bytes_eq (slice_index_or option_names j []) (codes "max-line") ≡ true → j ≡ 6
+max_line_alone : (j : ℕ) → j < 10 → bytes_eq (slice_index_or option_names j []) (codes "max-line") ≡ true → j ≡ 6
 max_line_alone zero lt same = cc
 max_line_alone (suc zero) lt same = cc
 max_line_alone (suc (suc zero)) lt same = cc
@@ -174,9 +178,10 @@ max_line_alone (suc (suc (suc (suc (suc zero))))) lt same = cc
 max_line_alone (suc (suc (suc (suc (suc (suc zero)))))) lt same = refl
 max_line_alone (suc (suc (suc (suc (suc (suc (suc zero))))))) lt same = cc
 max_line_alone (suc (suc (suc (suc (suc (suc (suc (suc zero)))))))) lt same = cc
-max_line_alone (suc (suc (suc (suc (suc (suc (suc (suc (suc n))))))))) lt same = absurd (omega arith)
+max_line_alone (suc (suc (suc (suc (suc (suc (suc (suc (suc zero))))))))) lt same = cc
+max_line_alone (suc (suc (suc (suc (suc (suc (suc (suc (suc (suc n)))))))))) lt same = absurd (omega arith)
 
-max_name_alone : (j : ℕ) → j < 9 → bytes_eq (slice_index_or option_names j []) (codes "max-name") ≡ true → j ≡ 7
+max_name_alone : (j : ℕ) → j < 10 → bytes_eq (slice_index_or option_names j []) (codes "max-name") ≡ true → j ≡ 7
 max_name_alone zero lt same = cc
 max_name_alone (suc zero) lt same = cc
 max_name_alone (suc (suc zero)) lt same = cc
@@ -186,15 +191,16 @@ max_name_alone (suc (suc (suc (suc (suc zero))))) lt same = cc
 max_name_alone (suc (suc (suc (suc (suc (suc zero)))))) lt same = cc
 max_name_alone (suc (suc (suc (suc (suc (suc (suc zero))))))) lt same = refl
 max_name_alone (suc (suc (suc (suc (suc (suc (suc (suc zero)))))))) lt same = cc
-max_name_alone (suc (suc (suc (suc (suc (suc (suc (suc (suc n))))))))) lt same = absurd (omega arith)
+max_name_alone (suc (suc (suc (suc (suc (suc (suc (suc (suc zero))))))))) lt same = cc
+max_name_alone (suc (suc (suc (suc (suc (suc (suc (suc (suc (suc n)))))))))) lt same = absurd (omega arith)
 
--- the option at a place below nine, whose name is met once and begins with neither `h` nor `v`
-option_at : (c : Command) → HasOptions c → (k : ℕ) → k < 9 → (id : List ℕ) → slice_index_or option_names k [] ≡ id
-    → ((j : ℕ) → j < 9 → bytes_eq (slice_index_or option_names j []) id ≡ true → j ≡ k)
+-- the option at a place below ten, whose name is met once and begins with neither `h` nor `v`
+option_at : (c : Command) → HasOptions c → (k : ℕ) → k < 10 → (id : List ℕ) → slice_index_or option_names k [] ≡ id
+    → ((j : ℕ) → j < 10 → bytes_eq (slice_index_or option_names j []) id ≡ true → j ≡ k)
     → (slice_index_or id 0 0 ≡ 0 → ⊥) → (slice_index_or id 0 0 ≡ 104 → ⊥) → (slice_index_or id 0 0 ≡ 118 → ⊥)
     → IsOption c k id
 option_at c options k lt id at alone some no_h no_v =
-    let count = nine_options c options in
+    let count = ten_options c options in
     let below : k < length (args_of c) = rw count lt in
     let named : (d : Arg) → (slice_index_or (args_of c) k d).id.now ≡ id = λ d. name_at c options k d below ∙ at in
     record {

@@ -27,7 +27,7 @@ TakesNumber c place low high =
 pub record HasOptions (c : Command) : Type 0 where
   pub names : map (λ a. a.id.now) (args_of c)
       ≡ codes "readers" ∷ codes "stats" ∷ codes "max-commands" ∷ codes "live" ∷ codes "search-ms" ∷ codes "max-body"
-      ∷ codes "max-line" ∷ codes "max-name" ∷ codes "FILE" ∷ []
+      ∷ codes "max-line" ∷ codes "max-name" ∷ codes "times" ∷ codes "FILE" ∷ []
   pub readers : TakesNumber c 0 0 MAX_READERS
   pub max_commands : TakesNumber c 2 1 MAX_COMMANDS
   pub search_ms : TakesNumber c 4 1 MAX_SEARCH_MS
@@ -59,7 +59,7 @@ fields f c is = map_rules f (args_of c) ∙ ap (λ (a : App). map f a.top.rules)
 abbrev parsers : List (Option ValueParser)
 parsers = Some (Signed (pos 0) (pos MAX_READERS)) ∷ None ∷ Some (Signed (pos 1) (pos MAX_COMMANDS)) ∷ None
     ∷ Some (Signed (pos 1) (pos MAX_SEARCH_MS)) ∷ Some (Signed (pos 1) (pos MAX_BODY)) ∷ Some (Signed (pos 1) (pos MAX_LINE))
-    ∷ Some (Signed (pos 1) (pos MAX_NAME)) ∷ None ∷ []
+    ∷ Some (Signed (pos 1) (pos MAX_NAME)) ∷ None ∷ None ∷ []
 
 pub has_options : (c : Command) → app_of c ≡ command_line → HasOptions c
 has_options c is =
@@ -69,26 +69,26 @@ has_options c is =
     let alone = simple_groups c (ap (λ (s : Shape). list_all (λ (a : Rule). a.is_simple) s.rules) shape) in
     let names = fields (λ (r : Rule). r.id) c is in
     let takes : map (λ (a : Arg). a.value_parser) (args_of c) ≡ parsers = fields (λ (r : Rule). r.parser) c is in
-    let nine : length (args_of c) ≡ 9 = sym (length-map (args_of c) (λ (a : Arg). a.value_parser)) ∙ ap length takes in
+    let ten : length (args_of c) ≡ 10 = sym (length-map (args_of c) (λ (a : Arg). a.value_parser)) ∙ ap length takes in
     record {
       names = names;
       readers = λ d.
-          let low : 0 < length (args_of c) = rw nine (omega arith) in
+          let low : 0 < length (args_of c) = rw ten (omega arith) in
           sym (get_or-map (λ (a : Arg). a.value_parser) (args_of c) 0 d None low) ∙ ap (λ (l : List (Option ValueParser)). slice_index_or l 0 None) takes;
       max_commands = λ d.
-          let low : 2 < length (args_of c) = rw nine (omega arith) in
+          let low : 2 < length (args_of c) = rw ten (omega arith) in
           sym (get_or-map (λ (a : Arg). a.value_parser) (args_of c) 2 d None low) ∙ ap (λ (l : List (Option ValueParser)). slice_index_or l 2 None) takes;
       search_ms = λ d.
-          let low : 4 < length (args_of c) = rw nine (omega arith) in
+          let low : 4 < length (args_of c) = rw ten (omega arith) in
           sym (get_or-map (λ (a : Arg). a.value_parser) (args_of c) 4 d None low) ∙ ap (λ (l : List (Option ValueParser)). slice_index_or l 4 None) takes;
       max_body = λ d.
-          let low : 5 < length (args_of c) = rw nine (omega arith) in
+          let low : 5 < length (args_of c) = rw ten (omega arith) in
           sym (get_or-map (λ (a : Arg). a.value_parser) (args_of c) 5 d None low) ∙ ap (λ (l : List (Option ValueParser)). slice_index_or l 5 None) takes;
       max_line = λ d.
-          let low : 6 < length (args_of c) = rw nine (omega arith) in
+          let low : 6 < length (args_of c) = rw ten (omega arith) in
           sym (get_or-map (λ (a : Arg). a.value_parser) (args_of c) 6 d None low) ∙ ap (λ (l : List (Option ValueParser)). slice_index_or l 6 None) takes;
       max_name = λ d.
-          let low : 7 < length (args_of c) = rw nine (omega arith) in
+          let low : 7 < length (args_of c) = rw ten (omega arith) in
           sym (get_or-map (λ (a : Arg). a.value_parser) (args_of c) 7 d None low) ∙ ap (λ (l : List (Option ValueParser)). slice_index_or l 7 None) takes;
       plain = (λ k d low. ((free k d low).exclusive, (free k d low).conflicts, (free k d low).overrides, alone k d low), simple.groups);
       local = simple.globals;

@@ -1,5 +1,5 @@
 -- The command line `tsearch [--readers N] [--stats] [--max-commands N] [--live] [--search-ms N] [--max-body N] [--max-line N]
--- [--max-name N] [FILE]`, and what arguments ask for with it.
+-- [--max-name N] [--times] [FILE]`, and what arguments ask for with it.
 use Rattle.std.specs.Prelude.{◌≡◌, ◌≢◌, ◌≤◌, ◌<◌, ◌↔◌, ℕ, List, [], Option, Some, None, true, codes, option_map, IfSome, pos, ⊤}
 use Rattle.std.specs.Str.Parse.{digits_value, without_leading_plus}
 use Rattle.clap.specs.Kinds.{IsAmong, Kinds}
@@ -32,7 +32,7 @@ with_version app = record app { top = record app.top { has_version = true } }
 
 -- the options and the argument of `tsearch`
 abbrev pub command_line : App
-command_line = with_rule (with_rule (with_rule (with_rule (with_rule (with_rule (with_rule (with_rule (with_rule (with_version (new_app (codes "tsearch")))
+command_line = with_rule (with_rule (with_rule (with_rule (with_rule (with_rule (with_rule (with_rule (with_rule (with_rule (with_version (new_app (codes "tsearch")))
     (number_option (codes "readers") 0 MAX_READERS))
     (flag (codes "stats")))
     (number_option (codes "max-commands") 1 MAX_COMMANDS))
@@ -41,6 +41,7 @@ command_line = with_rule (with_rule (with_rule (with_rule (with_rule (with_rule 
     (number_option (codes "max-body") 1 MAX_BODY))
     (number_option (codes "max-line") 1 MAX_LINE))
     (number_option (codes "max-name") 1 MAX_NAME))
+    (flag (codes "times")))
     (new_rule (codes "FILE"))
 
 -- what `clap` finds in the arguments when it reads them by this command line
@@ -70,6 +71,7 @@ pub record IsSettingsIn (found : List Row) (settings : Settings) : Type 0 where
   pub max_body : settings.max_body ≡ number_or DEFAULT_MAX_BODY (one_of (codes "max-body") found)
   pub max_line : settings.max_line ≡ number_or DEFAULT_MAX_LINE (one_of (codes "max-line") found)
   pub max_name : settings.max_name ≡ number_or DEFAULT_MAX_NAME (one_of (codes "max-name") found)
+  pub times : (settings.times ≡ true) ↔ (one_of (codes "times") found ≡ Some (codes "true"))
   pub file : option_map (λ path. path.now) settings.file ≡ first_of (codes "FILE") found
 
 pub record IsInLimits (settings : Settings) : Type 0 where

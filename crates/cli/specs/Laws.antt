@@ -15,6 +15,7 @@ pub record AreSameSettings (one other : Settings) : Type 0 where
   pub max_body : one.max_body ≡ other.max_body
   pub max_line : one.max_line ≡ other.max_line
   pub max_name : one.max_name ≡ other.max_name
+  pub times : one.times ≡ other.times
   pub file : option_map (λ path. path.now) one.file ≡ option_map (λ path. path.now) other.file
 
 -- Arguments spell one set of settings at most.

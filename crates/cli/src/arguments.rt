@@ -38,6 +38,8 @@ pub struct Settings<'a> {
     pub max_line: u32,
     /// `--max-name`: how long a name may be, in bytes, 1 to 4,096, by default 255.
     pub max_name: u32,
+    /// `--times`: whether each answer shows how long it waited and worked, and the way its lines were found.
+    pub times: bool,
     /// `FILE`: the path of the script, if it is not standard input.
     pub file: Option<&'a str>,
 }
@@ -102,6 +104,7 @@ fn read_settings<'a>(alloc: Global, arguments: &'a [String]) -> Result<Settings<
     let max_body = matches.get_one::<u32>("max-body");
     let max_line = matches.get_one::<u32>("max-line");
     let max_name = matches.get_one::<u32>("max-name");
+    let times = matches.get_one::<bool>("times");
     Ok(Settings {
         live: live.unwrap_or(false),
         readers: readers.unwrap_or(DEFAULT_READERS),
@@ -111,6 +114,7 @@ fn read_settings<'a>(alloc: Global, arguments: &'a [String]) -> Result<Settings<
         max_body: max_body.unwrap_or(DEFAULT_MAX_BODY),
         max_line: max_line.unwrap_or(DEFAULT_MAX_LINE),
         max_name: max_name.unwrap_or(DEFAULT_MAX_NAME),
+        times: times.unwrap_or(false),
         file: matches.get_str("FILE"),
     })
 }
@@ -134,6 +138,7 @@ fn command<'a>(alloc: Global) -> Result<Command<'a>, AllocError>
         .arg(number_option(alloc, "max-body", max_body))?
         .arg(number_option(alloc, "max-line", max_line))?
         .arg(number_option(alloc, "max-name", max_name))?
+        .arg(flag(alloc, "times"))?
         .arg(Arg::new(alloc, "FILE"))
 }
 

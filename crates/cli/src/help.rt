@@ -16,6 +16,8 @@ Options:
                           syncs and they find many lines
       --stats             Shows with each answer how many documents may have a match, judged by
                           their trigrams, and how many there are
+      --times             Shows with each answer for how many microseconds it waited and worked,
+                          and by which way its lines were found
       --max-commands <N>  How many puts, loads and removes are accepted, 1 to 4294967294
                           [default: 1000000]
       --live              Carries out each line as it arrives, and writes each answer as soon as it
@@ -32,6 +34,7 @@ A script is a list of lines:
   put NAME N          takes the next N bytes as the document NAME; a line feed follows them
   load NAME PATH      takes the file PATH as the document NAME
   remove NAME         removes the document NAME
+  removeunder PREFIX  removes all documents whose names begin with PREFIX
   publish             lets searches see all puts, loads and removes so far
   search ERE          lists the lines with a match of the expression ERE
   searchin NAMES ERE  lists them only in documents whose names match the expression NAMES

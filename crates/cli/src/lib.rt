@@ -1,5 +1,5 @@
 //! The command line of `tsearch`: `tsearch [--readers N] [--stats] [--max-commands N] [--live] [--search-ms N]
-//! [--max-body N] [--max-line N] [--max-name N] [FILE]`.
+//! [--max-body N] [--max-line N] [--max-name N] [--times] [FILE]`.
 //!
 //! `read_arguments` turns the arguments of the program into its settings, or says that they ask for the help
 //! or the version, or why they are refused. `clap` reads them.

@@ -7,4 +7,5 @@ pub mod MatchLemmas
 pub mod CutLemmas
 pub mod LawLemmas
 pub mod Deciding
+pub mod SameLineLemmas
 mod NextLemmas

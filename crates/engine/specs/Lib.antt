@@ -1,4 +1,5 @@
 pub mod Translation
+pub mod SameLines
 pub mod FirstLine
 pub mod Patterns
 pub mod NextMatch

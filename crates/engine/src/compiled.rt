@@ -1,13 +1,17 @@
 //! Compiled patterns.
 
-ghost use Rattle.std.specs.Prelude.{◌≡◌, IfOk, IfSome};
+ghost use Rattle.std.specs.Prelude.{◌≡◌, ◌≤◌, ◌<◌, IfOk, IfSome};
 ghost use Rattle.ere.specs.Tree.{form};
+ghost use Rattle.ere.specs.Limits.{leaves};
 ghost use Rattle.matcher.specs.Steps.{IsQuick};
+ghost use Rattle.regex_hir.specs.Meaning.{meaning};
+ghost use Rattle.regex_meta.specs.Programs.{pattern_of};
 
-use crate::translate::pattern_for;
-use ere::Ere;
+use crate::translate::{line_pattern_for, pattern_for};
+use ere::{Ere, capped_leaves};
 use matcher::is_quick;
 use regex_compile::Error;
+use regex_hir::Hir;
 use regex_meta::Program;
 use std::alloc::{AllocError, Global};
 
@@ -21,23 +25,39 @@ const MOST_TABLES: usize = 8192;
 /// 5 ns for each byte of the tables and of the text, and takes longer than the simulation if the tables are larger than this.
 const MOST_TABLES_IF_NOT_QUICK: usize = 1024;
 
+/// The longest text that the engine should search at one go, in bytes, if the tree has more leaves than `FEW_LEAVES`. With the worst
+/// patterns it then takes some hundredths of a second, in which it cannot be stopped.
+const LONGEST: usize = 262_144;
+
+/// The longest such text if the tree has few leaves.
+const LONGEST_IF_FEW_LEAVES: usize = 8_388_608;
+
+/// With so many leaves, the engine's own tables of states are soon full, whatever the text. From then on it takes 2 to 4 ns for each
+/// byte.
+const FEW_LEAVES: u32 = 12;
+
 /// A pattern compiled for the engine.
 pub struct Compiled {
     /// The engine's program.
     pub(crate) program: Program,
+    /// The longest text that it should search at one go, in bytes.
+    pub(crate) longest: usize,
 }
 
 // Written out, so a caller's proof sees one call.
 impl Drop for Compiled {
     fn drop(self) {
-        let Compiled { program: _program } = self;
+        let Compiled {
+            program: _program,
+            longest: _longest,
+        } = self;
     }
 }
 
 impl Compiled {
     ghost use Rattle.std.specs.Prelude.{IfOk, IfSome};
     ghost use Rattle.ere.specs.Tree.{form};
-    ghost use Rattle.engine.specs.Patterns.{IsCompiledFrom};
+    ghost use Rattle.engine.specs.Patterns.{IsCompiledFrom, IsCompiledForLines};
 
     /// Compiles the pattern of a tree. Returns `None` if its tables are so large that they would make a search slow:
     /// over 8,192 bytes, or over 1,024 if the matcher is not quick for the tree.
@@ -46,12 +66,31 @@ impl Compiled {
     pub fn new(alloc: Global, tree: &Ere) -> Result<Option<Compiled>, AllocError>
         ensures { IfOk result (λ o. IfSome o (IsCompiledFrom (form tree.now))) }
     {
-        let pattern = pattern_for(alloc, tree)?;
-        match Program::new(alloc, pattern, 1, most_tables(tree)) {
-            Ok(program) => Ok(Some(Compiled { program })),
-            Err(Error::OutOfMemory) => Err(AllocError),
-            Err(_) => Ok(None),
-        }
+        compiled_from(alloc, tree, pattern_for(alloc, tree)?)
+    }
+
+    /// Compiles a pattern that finds the lines with a match of the tree, but not where their matches begin: what the tree begins
+    /// with, and can be empty, is left out. Returns `None` as `new` does.
+    ///
+    /// An `Err` means that memory ran out.
+    pub fn for_lines(alloc: Global, tree: &Ere) -> Result<Option<Compiled>, AllocError>
+        ensures { IfOk result (λ o. IfSome o (IsCompiledForLines (form tree.now))) }
+    {
+        compiled_from(alloc, tree, line_pattern_for(alloc, tree)?)
+    }
+}
+
+/// The pattern of the tree, compiled, unless its tables would be too large.
+fn compiled_from(alloc: Global, tree: &Ere, pattern: Hir) -> Result<Option<Compiled>, AllocError>
+    ensures { IfOk result (λ o. IfSome o (λ compiled. pattern_of compiled.program ≡ meaning pattern)) }
+{
+    match Program::new(alloc, pattern, 1, most_tables(tree)) {
+        Ok(program) => Ok(Some(Compiled {
+            program,
+            longest: longest_for(tree),
+        })),
+        Err(Error::OutOfMemory) => Err(AllocError),
+        Err(_) => Ok(None),
     }
 }
 
@@ -64,5 +103,17 @@ fn most_tables(tree: &Ere) -> usize
         MOST_TABLES
     } else {
         MOST_TABLES_IF_NOT_QUICK
+    }
+}
+
+/// The longest text that the tree's pattern should search at one go, in bytes. No answer depends on it.
+fn longest_for(tree: &Ere) -> usize
+    ensures few { leaves (form tree.now) ≤ FEW_LEAVES → result ≡ LONGEST_IF_FEW_LEAVES }
+    ensures many { FEW_LEAVES < leaves (form tree.now) → result ≡ LONGEST }
+{
+    if capped_leaves(tree) <= FEW_LEAVES {
+        LONGEST_IF_FEW_LEAVES
+    } else {
+        LONGEST
     }
 }

@@ -22,6 +22,8 @@ pub struct FirstLine {
 pub struct Finder<'p> {
     /// The engine's searcher, with its tables.
     pub(crate) searcher: Searcher<'p>,
+    /// The longest text that it should search at one go, in bytes.
+    pub(crate) longest: usize,
 }
 
 // Written out, so a caller's proof sees one call.
@@ -29,33 +31,44 @@ impl Drop for Finder<'_> {
     fn drop(self) {
         let Finder {
             searcher: _searcher,
+            longest: _longest,
         } = self;
     }
 }
 
 impl<'p> Finder<'p> {
-    ghost use Rattle.std.specs.Prelude.{◌≢◌, ◌≤◌, ◌↔◌, ◌<◌, ℕ, IsTrue, IfOk, IfSome, IfNone, MatchOption, length, slice_index};
+    ghost use Rattle.std.specs.Prelude.{◌≡◌, ◌≢◌, ◌≤◌, ◌↔◌, ◌<◌, ℕ, IsTrue, IfOk, IfSome, IfNone, MatchOption, length, slice_index};
     ghost use Rattle.ere.specs.Tree.{Tree};
     ghost use Rattle.ere.specs.Language.{ContainsMatch};
     ghost use Rattle.engine.specs.FirstLine.{IsFirstLine, IsInside, HasNoMatch};
-    ghost use Rattle.engine.specs.Patterns.{IsCompiledFrom, IsFinderOf};
+    ghost use Rattle.engine.specs.Patterns.{IsCompiledFrom, IsCompiledForLines, IsFinderOf, IsLineFinderOf};
     ghost use Rattle.engine.specs.NextMatch.{HasNoMatchFrom, IsNextMatch};
 
     /// A finder for the pattern. An `Err` means that memory ran out.
     pub fn new(alloc: Global, compiled: &'p Compiled) -> Result<Finder<'p>, AllocError>
-        ensures { IfOk result (λ finder. (tree : Tree) → IsCompiledFrom tree compiled.now → IsFinderOf tree finder) }
+        ensures finder { IfOk result (λ finder. (tree : Tree) → IsCompiledFrom tree compiled.now → IsFinderOf tree finder) }
+        ensures lines { IfOk result (λ finder. (tree : Tree) → IsCompiledForLines tree compiled.now → IsLineFinderOf tree finder) }
     {
         Ok(Finder {
             searcher: Searcher::new(alloc, &compiled.program)?,
+            longest: compiled.longest,
         })
+    }
+
+    /// The longest text that it should search at one go, in bytes, since nothing can stop it before the text's end: 8 MiB if the tree
+    /// has at most 12 leaves (`ere::capped_leaves`), and otherwise 256 KiB. It takes longer ones too.
+    pub fn longest(&self) -> usize
+        ensures { result ≡ self.now.longest }
+    {
+        self.longest
     }
 
     /// The first line of the text that contains a match, or `None` if no line does.
     pub fn first_line(&mut self, text: &[u8]) -> Option<FirstLine>
         ensures same { (tree : Tree) → IsFinderOf tree self.old → IsFinderOf tree self.new }
         ensures inside { IfSome result (IsInside text.now) }
-        ensures none { IfNone result ((tree : Tree) → IsFinderOf tree self.old → HasNoMatch tree text.now) }
-        ensures some { IfSome result (λ line. (tree : Tree) → IsFinderOf tree self.old → IsFirstLine tree text.now line) }
+        ensures none { IfNone result ((tree : Tree) → IsLineFinderOf tree self.old → HasNoMatch tree text.now) }
+        ensures some { IfSome result (λ line. (tree : Tree) → IsLineFinderOf tree self.old → IsFirstLine tree text.now line) }
     {
         let Some((from, _)) = self.searcher.find(text, 0) else {
             return None;
@@ -74,7 +87,7 @@ impl<'p> Finder<'p> {
     pub fn matches(&mut self, line: &[u8]) -> bool
         requires { (k : ℕ) → k < length line.now → slice_index line.now k ≢ 10 }
         ensures same { (tree : Tree) → IsFinderOf tree self.old → IsFinderOf tree self.new }
-        ensures found { (tree : Tree) → IsFinderOf tree self.old → IsTrue result ↔ ContainsMatch tree line.now }
+        ensures found { (tree : Tree) → IsLineFinderOf tree self.old → IsTrue result ↔ ContainsMatch tree line.now }
     {
         self.searcher.is_match(line, 0)
     }

@@ -1,16 +1,56 @@
 //! The engine's pattern for a tree.
 
-ghost use Rattle.std.specs.Prelude.{◌≡◌, ◌≤◌, ℕ, IfOk, IfSome, None, Some, map};
+ghost use Rattle.std.specs.Prelude.{◌≡◌, ◌≤◌, ℕ, IfOk, IfSome, IsTrue, None, Some, map};
 ghost use Rattle.regex_class.specs.Ranges.{in_ranges};
 ghost use Rattle.regex_hir.specs.Meaning.{meaning};
 ghost use Rattle.ere.specs.ByteSet.{has};
-ghost use Rattle.ere.specs.Tree.{form, trees_of, repeat};
+ghost use Rattle.ere.specs.Tree.{Tree, form, trees_of, cat, repeat};
 ghost use Rattle.engine.specs.Translation.{StandsFor, StandForEach};
+ghost use Rattle.engine.specs.SameLines.{CanBeEmpty, HaveSameLines};
 
 use ere::{ByteSet, Ere};
 use regex_class::Class;
 use regex_hir::{Hir, Look};
 use std::alloc::{AllocError, Global};
+
+/// The engine's pattern for a tree that has the same lines: `d` for that of `((a*|b)*|c)*d`. What a tree begins with, and can be
+/// empty, is left out, since a line with a match of the rest has one of the tree, and the other way round. An `Err` means that
+/// memory ran out.
+pub fn line_pattern_for(alloc: Global, tree: &Ere) -> Result<Hir, AllocError>
+    ensures { IfOk result (λ hir. (other : Tree) × HaveSameLines (form tree.now) other × StandsFor other (meaning hir)) }
+{
+    match tree {
+        Ere::Cat(members) => {
+            let patterns = patterns_for(alloc, after_empty(members.as_slice()))?;
+            Ok(Hir::Concat(patterns))
+        }
+        _ => pattern_for(alloc, tree),
+    }
+}
+
+/// The members from the first one on that is not known to have an empty match everywhere.
+fn after_empty(members: &[Ere]) -> &[Ere]
+    ensures { HaveSameLines (cat (trees_of (map form members.now))) (cat (trees_of (map form result.now))) }
+{
+    let mut rest = members;
+    while let [first, others @ ..] = rest {
+        if !can_be_empty(first) {
+            return rest;
+        }
+        rest = others;
+    }
+    rest
+}
+
+/// Whether the tree is one of no copies or more.
+fn can_be_empty(tree: &Ere) -> bool
+    ensures { IsTrue result → CanBeEmpty (form tree.now) }
+{
+    match tree {
+        Ere::Repeat(_, least, _) => *least == 0,
+        _ => false,
+    }
+}
 
 /// The engine's pattern for a tree. An `Err` means that memory ran out.
 #[cycle(translate)]

@@ -27,7 +27,7 @@ pub use laws::{
     anchored_set, one_tree, only_the_empty_word, star_unrolls, surroundings_are_forgotten,
     tree_within_limits, whole_lines, whole_words,
 };
-pub use limits::MAX_LEAVES;
+pub use limits::{MAX_LEAVES, capped_leaves};
 pub use made::{as_line, as_word, literal};
 pub use reader::{parse, parse_with};
 pub use tree::Ere;

@@ -113,12 +113,17 @@ number_of-put number name body ds q none = go (bytes_eq name q) refl
 later_good : (version : ℕ) (d : Document) → IsGoodDocument version d → IsGoodDocument (version + 1) d
 later_good version d good = (good.0, omega (arith, good.1), good.2, good.3)
 
-pub IsState-remove : (version : ℕ) (ds : List Document) (name : List ℕ) → IsState (state version ds) → IsState (state (version + 1) (without name ds))
-IsState-remove version ds name is = record {
+pub IsState-later : (version : ℕ) (ds : List Document) → IsState (state version ds) → IsState (state (version + 1) ds)
+IsState-later version ds is = record {
+  rise = is.rise;
+  good = All-weaker (λ d. IsGoodDocument version d) (λ d. IsGoodDocument (version + 1) d) (later_good version) ds is.good;
+  names = is.names;
+}
+
+pub IsState-without : (version : ℕ) (ds : List Document) (name : List ℕ) → IsState (state version ds) → IsState (state version (without name ds))
+IsState-without version ds name is = record {
   rise = rise-filter (λ d. d.number) (λ d. not (bytes_eq d.name name)) ds is.rise;
-  good =
-      All-filter (λ d. not (bytes_eq d.name name)) (λ d. IsGoodDocument (version + 1) d) ds
-      (All-weaker (λ d. IsGoodDocument version d) (λ d. IsGoodDocument (version + 1) d) (later_good version) ds is.good);
+  good = All-filter (λ d. not (bytes_eq d.name name)) (λ d. IsGoodDocument version d) ds is.good;
   names = AllPairs-filter (λ d e. d.name ≢ e.name) (λ d. not (bytes_eq d.name name)) ds is.names;
 }
 

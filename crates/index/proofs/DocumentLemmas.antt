@@ -7,7 +7,7 @@ use Rattle.std.proofs.lemmas.Cmp.{nat_list_eq_equiv}
 use Rattle.std.proofs.lemmas.Bool.{false≢true}
 use Rattle.std.proofs.lemmas.List.Elements.{All-map}
 use Rattle.index.specs.declared.command.Command.{Command}
-use Rattle.index.specs.Documents.{Document, document, name_of, names, number_of, is_taken}
+use Rattle.index.specs.Documents.{Document, document, bears_on, one_bears_on, number_of, is_taken}
 pub use Rattle.query.proofs.OrderLemmas.{Contains-filter, Contains-from_filter as filter-Contains}
 
 pub same_name : (x y : List ℕ) → bytes_eq x y ≡ true → x ≡ y
@@ -19,14 +19,14 @@ bytes_eq-refl x = nat_list_eq_equiv.refl x
 pub bytes_eq-sym : (x y : List ℕ) → bytes_eq x y ≡ bytes_eq y x
 bytes_eq-sym x y = nat_list_eq_equiv.symm x y
 
-pub names-push : (c : List Command) (command : Command) (name : List ℕ) → names (c ++ command ∷ []) name ≡ (names c name || bytes_eq (name_of command) name)
-unfolding names
-names-push [] command name = or_none (bytes_eq (name_of command) name)
+pub one_bears_on-push : (c : List Command) (command : Command) (name : List ℕ) → one_bears_on (c ++ command ∷ []) name ≡ (one_bears_on c name || bears_on command name)
+unfolding one_bears_on
+one_bears_on-push [] command name = or_none (bears_on command name)
   where
     or_none : (a : Bool) → (a || false) ≡ a
     or_none true = refl
     or_none false = refl
-names-push (first ∷ c) command name = rw (names-push c command name) (or_assoc (bytes_eq (name_of first) name) (names c name) (bytes_eq (name_of command) name))
+one_bears_on-push (first ∷ c) command name = rw (one_bears_on-push c command name) (or_assoc (bears_on first name) (one_bears_on c name) (bears_on command name))
   where
     or_assoc : (a b d : Bool) → (a || (b || d)) ≡ ((a || b) || d)
     or_assoc true b d = refl

@@ -18,7 +18,7 @@ use Rattle.index.proofs.DocumentLemmas.{number_of-replaced}
 use Rattle.index.proofs.StoredLemmas.{Numbered, Numbered-rise}
 use Rattle.index.proofs.OrderLemmas.{Named, Named-pairs}
 use Rattle.index.proofs.ApplyLemmas.{without-numbered, without-none, with_body-numbered, number_of-put, number_of-without, IsState-new}
-use Rattle.index.proofs.ApplyLemmas.{IsState-replace, IsState-remove, bytes-documents}
+use Rattle.index.proofs.ApplyLemmas.{IsState-replace, IsState-without, IsState-later, bytes-documents}
 
 pub numbered : (version : ℕ) (ds : List Document) → IsState (state version ds) → Numbered ds
 numbered version ds is = Numbered-rise ds is.rise
@@ -121,18 +121,26 @@ IsIndex-new version old new before after name body is none is_name is_body few e
   few = few;
 }
 
-pub IsIndex-remove : (version : ℕ) (old new : BTreeMap (List ℕ) ℕ) (before after : Store) (name : List ℕ) → IsIndex version old before
-    → version + 1 < 2 ^ 32
+pub IsIndex-without : (version : ℕ) (old new : BTreeMap (List ℕ) ℕ) (before after : Store) (name : List ℕ) → IsIndex version old before
     → ((q : List ℕ) → get (slice_cmp nat_cmp) new q ≡ cond (bytes_eq name q) None (get (slice_cmp nat_cmp) old q))
-    → stored after ≡ without name (stored before) → IsStore version after → IsIndex (version + 1) new after
-IsIndex-remove version old new before after name is few removed documents kept = record {
-  kept = later_store version after kept;
-  is_state = subst (λ ds. IsState (state (version + 1) ds)) (sym documents) (IsState-remove version (stored before) name is.is_state);
+    → stored after ≡ without name (stored before) → IsStore version after → IsIndex version new after
+IsIndex-without version old new before after name is removed documents kept = record {
+  kept = kept;
+  is_state = subst (λ ds. IsState (state version ds)) (sym documents) (IsState-without version (stored before) name is.is_state);
   number =
       λ q.
       removed q
       ∙ (ap (λ found. cond (bytes_eq name q) None found) (is.number q)
       ∙ (sym (number_of-without name (stored before) q) ∙ ap (number_of q) (sym documents)));
+  few = is.few;
+}
+
+pub IsIndex-later : (version : ℕ) (numbers : BTreeMap (List ℕ) ℕ) (store : Store) → IsIndex version numbers store → version + 1 < 2 ^ 32
+    → IsIndex (version + 1) numbers store
+IsIndex-later version numbers store is few = record {
+  kept = later_store version store is.kept;
+  is_state = IsState-later version (stored store) is.is_state;
+  number = is.number;
   few = few;
 }
 

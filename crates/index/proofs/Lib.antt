@@ -6,8 +6,10 @@ pub mod StateLemmas
 pub mod RisingLemmas
 pub mod SlotLemmas
 pub mod StoredLemmas
+pub mod PieceLemmas
 pub mod ApplyLemmas
-mod UnderLemmas
+pub mod UnderLemmas
 pub mod OrderLemmas
 mod ChosenLemmas
 pub mod IndexLemmas
+pub mod RemovedLemmas

@@ -1,18 +1,19 @@
 -- What the last and the first Puts of a name say of its document.
 use Rattle.std.proofs.Common.{◌≡◌, ◌≢◌, ℕ, suc, ◌<◌, ◌||◌, ◌⊎◌, inl, inr, not, Bool, true, false, cond, List, [], ◌∷◌, ◌++◌, map, length, get_or}
 use Rattle.std.proofs.Common.{Contains, refl, sym, ◌∙◌, ap, subst, arith, append_assoc}
-use Rattle.std.specs.Prelude.{All, bytes_eq}
+use Rattle.std.specs.Prelude.{All, bytes_eq, filter}
 use Rattle.std.specs.List.Sorted.{IsStrictlyIncreasing}
 use Rattle.std.proofs.lemmas.Bool.{false≢true}
 use Rattle.std.proofs.lemmas.List.{length-append, append-nil, map-append}
 use Rattle.std.proofs.lemmas.List.Elements.{All-nil, All-head, All-tail, All-push, All-map, All-filter, All-weaker, All-contains, All-contains_itself}
 use Rattle.std.proofs.lemmas.List.Elements.{Contains-append_left, Contains-append_right, Contains-append_cases}
 use Rattle.posting.proofs.Rising.{rising-push}
+use Rattle.index.specs.Text.{begins_with}
 use Rattle.index.specs.declared.command.Command.{Command}
-use Rattle.index.specs.declared.command.Command.TheVariants.{Put, Remove}
-use Rattle.index.specs.Documents.{Document, document, name_of, names, is_taken, with_body, without, documents_after, documents_from, documents_of}
+use Rattle.index.specs.declared.command.Command.TheVariants.{Put, Remove, RemoveUnder}
+use Rattle.index.specs.Documents.{Document, document, bears_on, one_bears_on, takes_away, is_taken, is_under, with_body, documents_after, documents_from, documents_of}
 use Rattle.index.specs.Documents.{IsPutLast, IsDocument}
-use Rattle.index.proofs.DocumentLemmas.{same_name, bytes_eq-refl, bytes_eq-sym, names-push, Contains-cons, Contains-head, Contains-map}
+use Rattle.index.proofs.DocumentLemmas.{same_name, bytes_eq-refl, bytes_eq-sym, one_bears_on-push, Contains-cons, Contains-head, Contains-map}
 use Rattle.index.proofs.DocumentLemmas.{map-Contains, Contains-filter, filter-Contains, taken-Contains, Contains-untaken, numbers-replaced, All-replaced}
 use Rattle.index.proofs.RisingLemmas.{rise-filter}
 
@@ -48,20 +49,20 @@ cuts (x ∷ before) at after (y ∷ before') at' after' e =
 -- ---- the last Put of a name
 
 now_last : (done : List Command) (name body : List ℕ) → IsPutLast (done ++ Put name body ∷ []) name body
-unfolding names
-now_last done name body = record { before = done; later = []; put = refl; unnamed = refl }
+unfolding one_bears_on
+now_last done name body = record { before = done; later = []; put = refl; untouched = refl }
 
-still_last : (done : List Command) (c : Command) (name body : List ℕ) → IsPutLast done name body → bytes_eq (name_of c) name ≡ false
+still_last : (done : List Command) (c : Command) (name body : List ℕ) → IsPutLast done name body → bears_on c name ≡ false
     → IsPutLast (done ++ c ∷ []) name body
 still_last done c name body h other = record {
   before = h.before;
   later = h.later ++ c ∷ [];
   put = ap (λ xs. xs ++ c ∷ []) h.put ∙ append_assoc h.before (Put name body ∷ h.later) (c ∷ []);
-  unnamed = names-push h.later c name ∙ rw (h.unnamed, other) refl;
+  untouched = one_bears_on-push h.later c name ∙ rw (h.untouched, other) refl;
 }
 
 was_last : (done : List Command) (c : Command) (name body : List ℕ) → IsPutLast (done ++ c ∷ []) name body
-    → (c ≡ Put name body) ⊎ (IsPutLast done name body × (bytes_eq (name_of c) name ≡ false))
+    → (c ≡ Put name body) ⊎ (IsPutLast done name body × (bears_on c name ≡ false))
 was_last done c name body h =
     elim (cuts h.before (Put name body) h.later done c [] (sym h.put)) [
       | inl same ↦ inl (sym same.at_same)
@@ -73,38 +74,38 @@ was_last done c name body h =
     or_parts true b e = absurd (false≢true (sym e))
     or_parts false b e = (refl, e)
 
-    before : IsLaterCut h.before (Put name body) h.later done c [] → IsPutLast done name body × (bytes_eq (name_of c) name ≡ false)
+    before : IsLaterCut h.before (Put name body) h.later done c [] → IsPutLast done name body × (bears_on c name ≡ false)
     before later =
         let both =
-        or_parts (names later.between name) (bytes_eq (name_of c) name)
-        (sym (names-push later.between c name) ∙ (ap (λ xs. names xs name) (sym later.rest) ∙ h.unnamed)) in
-        (record { before = h.before; later = later.between; put = later.longer; unnamed = both.0 }, both.1)
+        or_parts (one_bears_on later.between name) (bears_on c name)
+        (sym (one_bears_on-push later.between c name) ∙ (ap (λ xs. one_bears_on xs name) (sym later.rest) ∙ h.untouched)) in
+        (record { before = h.before; later = later.between; put = later.longer; untouched = both.0 }, both.1)
 
     none : IsLaterCut done c [] h.before (Put name body) h.later → ⊥
     none later =
         let size = ap length later.rest in
         omega (arith, size, length-append later.between (Put name body ∷ h.later))
 
-last_or_none : (name : List ℕ) (commands : List Command) → All (λ c. c ≢ Remove name) commands
-    → (names commands name ≡ false) ⊎ ((body : List ℕ) × IsPutLast commands name body)
-unfolding names
+last_or_none : (name : List ℕ) (commands : List Command) → All (λ c. takes_away c name ≡ false) commands
+    → (one_bears_on commands name ≡ false) ⊎ ((body : List ℕ) × IsPutLast commands name body)
+unfolding one_bears_on
 last_or_none name [] kept = inl refl
 last_or_none name (c ∷ later) kept =
-    elim (last_or_none name later (All-tail (λ x. x ≢ Remove name) c later kept)) [
-      | inl none ↦ first c (bytes_eq (name_of c) name) refl (All-head (λ x. x ≢ Remove name) c later kept) none
+    elim (last_or_none name later (All-tail (λ x. takes_away x name ≡ false) c later kept)) [
+      | inl none ↦ first c (bears_on c name) refl (All-head (λ x. takes_away x name ≡ false) c later kept) none
       | inr at ↦ inr (
         at.0,
         record {
           before = c ∷ at.1.before;
           later = at.1.later;
           put = ap (λ xs. c ∷ xs) at.1.put;
-          unnamed = at.1.unnamed;
+          untouched = at.1.untouched;
         },
       )
     ]
   where
-    first : (c : Command) (t : Bool) → bytes_eq (name_of c) name ≡ t → c ≢ Remove name → names later name ≡ false
-        → ((bytes_eq (name_of c) name || names later name) ≡ false) ⊎ ((body : List ℕ) × IsPutLast (c ∷ later) name body)
+    first : (c : Command) (t : Bool) → bears_on c name ≡ t → takes_away c name ≡ false → one_bears_on later name ≡ false
+        → ((bears_on c name || one_bears_on later name) ≡ false) ⊎ ((body : List ℕ) × IsPutLast (c ∷ later) name body)
     first c false e kept none = inl (rw (e, none) refl)
     first (Put other body) true e kept none =
         inr (
@@ -113,17 +114,18 @@ last_or_none name (c ∷ later) kept =
             before = [];
             later = later;
             put = ap (λ n. Put n body ∷ later) (same_name other name e);
-            unnamed = none;
+            untouched = none;
           },
         )
-    first (Remove other) true e kept none = absurd (kept (ap Remove (same_name other name e)))
+    first (Remove other) true e kept none = absurd (false≢true (sym kept ∙ e))
+    first (RemoveUnder prefix) true e kept none = absurd (false≢true (sym kept ∙ e))
 
--- Where no later command removes a name, its last Put is no earlier.
-put_stays : (name body : List ℕ) (before later : List Command) → All (λ c. c ≢ Remove name) later
+-- Where no later command takes a name away, its last Put is no earlier.
+put_stays : (name body : List ℕ) (before later : List Command) → All (λ c. takes_away c name ≡ false) later
     → (last : List ℕ) × IsPutLast (before ++ Put name body ∷ later) name last
 put_stays name body before later kept =
     elim (last_or_none name later kept) [
-      | inl none ↦ (body, record { before = before; later = later; put = refl; unnamed = none })
+      | inl none ↦ (body, record { before = before; later = later; put = refl; untouched = none })
       | inr at ↦ (
         at.0,
         record {
@@ -132,7 +134,7 @@ put_stays name body before later kept =
           put =
               ap (λ xs. before ++ Put name body ∷ xs) at.1.put
               ∙ sym (append_assoc before (Put name body ∷ at.1.before) (Put name at.0 ∷ at.1.later));
-          unnamed = at.1.unnamed;
+          untouched = at.1.untouched;
         },
       )
     ]
@@ -140,7 +142,7 @@ put_stays name body before later kept =
 -- ---- the first Put of a name since it was removed
 
 -- The document stays, with another body or the same.
-stays : (done : List Command) (c : Command) (d : Document) (body : List ℕ) → IsDocument done d → c ≢ Remove d.name
+stays : (done : List Command) (c : Command) (d : Document) (body : List ℕ) → IsDocument done d → takes_away c d.name ≡ false
     → IsPutLast (done ++ c ∷ []) d.name body → IsDocument (done ++ c ∷ []) (document d.number d.name body)
 stays done c d body h kept last = record {
   last = last;
@@ -149,7 +151,7 @@ stays done c d body h kept last = record {
   since = h.since ++ c ∷ [];
   put = ap (λ xs. xs ++ c ∷ []) h.put ∙ append_assoc h.before (Put d.name h.first ∷ h.since) (c ∷ []);
   number = h.number;
-  kept = All-push (λ x. x ≢ Remove d.name) h.since c h.kept kept;
+  kept = All-push (λ x. takes_away x d.name ≡ false) h.since c h.kept kept;
   fresh = h.fresh;
 }
 
@@ -162,15 +164,15 @@ starts done name body fresh = record {
   since = [];
   put = refl;
   number = omega arith;
-  kept = All-nil (λ c. c ≢ Remove name);
+  kept = All-nil (λ c. takes_away c name ≡ false);
   fresh = fresh;
 }
 
 kept_between : (name : List ℕ) (between after : List Command) (at : Command) (all : List Command) → all ≡ between ++ at ∷ after
-    → All (λ c. c ≢ Remove name) all → All (λ c. c ≢ Remove name) between
+    → All (λ c. takes_away c name ≡ false) all → All (λ c. takes_away c name ≡ false) between
 kept_between name between after at all is kept = λ k c inside.
     (let x = get_or between k c in
-    All-contains (λ y. y ≢ Remove name) all x kept
+    All-contains (λ y. takes_away y name ≡ false) all x kept
     (subst (λ xs. Contains xs x) (sym is) (Contains-append_left between (at ∷ after) x (All-contains_itself between k c inside))))
 
 -- a name has one such Put
@@ -207,11 +209,13 @@ follows-none = record {
   found = λ name body h. (let size = ap length h.put in absurd (omega (arith, size, length-append h.before (Put name body ∷ h.later))));
 }
 
-passed : (done : List Command) (c : Command) (d : Document) → IsDocument done d → bytes_eq (name_of c) d.name ≡ false → IsDocument (done ++ c ∷ []) d
-passed done c d h other =
-    stays done c d d.body h
-    (λ is. false≢true (sym other ∙ (ap (λ x. bytes_eq (name_of x) d.name) is ∙ bytes_eq-refl d.name)))
-    (still_last done c d.name d.body h.last other)
+unremoved : (c : Command) (name : List ℕ) → bears_on c name ≡ false → takes_away c name ≡ false
+unremoved (Put n body) name other = refl
+unremoved (Remove n) name other = other
+unremoved (RemoveUnder prefix) name other = other
+
+passed : (done : List Command) (c : Command) (d : Document) → IsDocument done d → bears_on c d.name ≡ false → IsDocument (done ++ c ∷ []) d
+passed done c d h other = stays done c d d.body h (unremoved c d.name other) (still_last done c d.name d.body h.last other)
 
 follows-new : (done : List Command) (ds : List Document) (name body : List ℕ) → Follows done ds → is_taken name ds ≡ false
     → Follows (done ++ Put name body ∷ []) (ds ++ document (suc (length done)) name body ∷ [])
@@ -262,7 +266,7 @@ follows-replaced done ds name body h taken = record {
     each : (d : Document) → IsDocument done d → (t : Bool) → bytes_eq d.name name ≡ t
         → IsDocument (done ++ Put name body ∷ []) (cond t (document d.number d.name body) d)
     each d was true e =
-        stays done (Put name body) d body was (λ is. cc)
+        stays done (Put name body) d body was refl
         (subst (λ n. IsPutLast (done ++ Put name body ∷ []) n body) (sym (same_name d.name name e)) (now_last done name body))
     each d was false e = passed done (Put name body) d was (bytes_eq-sym name d.name ∙ e)
 
@@ -287,29 +291,31 @@ follows-replaced done ds name body h taken = record {
               (ap (λ t. cond t (document at.0 n body) (document at.0 n b)) (bytes_eq-sym n name ∙ was.1)),
         )
 
-follows-removed : (done : List Command) (ds : List Document) (name : List ℕ) → Follows done ds → Follows (done ++ Remove name ∷ []) (without name ds)
-follows-removed done ds name h = record {
-  each = λ d at. (let was = filter-Contains (λ x. not (bytes_eq x.name name)) ds d at in
-      passed done (Remove name) d (h.each d was.0) (bytes_eq-sym name d.name ∙ other (bytes_eq d.name name) was.1));
-  found = λ n b last. found n b (was_last done (Remove name) n b last);
+-- documents that a command takes away, which puts none
+follows-removed : (done : List Command) (ds : List Document) (c : Command) (gone : List ℕ → Bool) → ((name : List ℕ) → bears_on c name ≡ gone name)
+    → ((name body : List ℕ) → c ≢ Put name body) → Follows done ds → Follows (done ++ c ∷ []) (filter (λ d. not (gone d.name)) ds)
+follows-removed done ds c gone same no_put h = record {
+  each = λ d at. (let was = filter-Contains (λ x. not (gone x.name)) ds d at in
+      passed done c d (h.each d was.0) (same d.name ∙ other (gone d.name) was.1));
+  found = λ n b last. found n b (was_last done c n b last);
 }
   where
     other : (t : Bool) → not t ≡ true → t ≡ false
     other true e = absurd (false≢true e)
     other false e = refl
 
-    found : (n b : List ℕ) → (Remove name ≡ Put n b) ⊎ (IsPutLast done n b × (bytes_eq name n ≡ false))
-        → (number : ℕ) × Contains (without name ds) (document number n b)
-    found n b (inl is) = cc
+    found : (n b : List ℕ) → (c ≡ Put n b) ⊎ (IsPutLast done n b × (bears_on c n ≡ false))
+        → (number : ℕ) × Contains (filter (λ d. not (gone d.name)) ds) (document number n b)
+    found n b (inl is) = absurd (no_put n b is)
     found n b (inr was) =
-        let at = h.found n b was.0 in (
-          at.0,
-          Contains-filter (λ x. not (bytes_eq x.name name)) ds (document at.0 n b) at.1 (ap not (bytes_eq-sym n name ∙ was.1)),
-        )
+        let at = h.found n b was.0 in
+        (at.0, Contains-filter (λ x. not (gone x.name)) ds (document at.0 n b) at.1 (ap not (sym (same n) ∙ was.1)))
 
 follows-after : (done : List Command) (c : Command) (ds : List Document) → Follows done ds
     → Follows (done ++ c ∷ []) (documents_after (suc (length done)) c ds)
-follows-after done (Remove name) ds h = follows-removed done ds name h
+follows-after done (Remove name) ds h =
+    follows-removed done ds (Remove name) (λ n. bytes_eq n name) (λ n. bytes_eq-sym name n) (λ n b is. cc) h
+follows-after done (RemoveUnder prefix) ds h = follows-removed done ds (RemoveUnder prefix) (begins_with prefix) (λ n. refl) (λ n b is. cc) h
 follows-after done (Put name body) ds h = go (is_taken name ds) refl
   where
     go : (t : Bool) → is_taken name ds ≡ t
@@ -333,7 +339,7 @@ follows done (c ∷ later) ds h =
 pub IsDocument-Contains : (c : List Command) (d : Document) → Contains (documents_of c) d → IsDocument c d
 IsDocument-Contains c d h = (follows [] c [] follows-none).each d h
 
--- a last Put that no later command names has a document
+-- a last Put, on whose name no later command bears, has a document
 pub Contains-IsPutLast : (c : List Command) (name body : List ℕ) → IsPutLast c name body
     → (number : ℕ) × Contains (documents_of c) (document number name body)
 Contains-IsPutLast c name body h = (follows [] c [] follows-none).found name body h
@@ -352,12 +358,16 @@ record RiseBelow (number : ℕ) (ds : List Document) : Type 0 where
   rise : IsStrictlyIncreasing (map (λ d. d.number) ds)
   below : All (λ d. d.number < number) ds
 
-rises-after : (place : ℕ) (c : Command) (ds : List Document) → RiseBelow place ds → RiseBelow (suc place) (documents_after place c ds)
-rises-after place (Remove name) ds h = record {
-  rise = rise-filter (λ d. d.number) (λ d. not (bytes_eq d.name name)) ds h.rise;
-  below = All-filter (λ d. not (bytes_eq d.name name)) (λ d. d.number < suc place) ds
+rises-filter : (place : ℕ) (p : Document → Bool) (ds : List Document) → RiseBelow place ds → RiseBelow (suc place) (filter p ds)
+rises-filter place p ds h = record {
+  rise = rise-filter (λ d. d.number) p ds h.rise;
+  below = All-filter p (λ d. d.number < suc place) ds
       (All-weaker (λ d. d.number < place) (λ d. d.number < suc place) (λ d low. omega arith) ds h.below);
 }
+
+rises-after : (place : ℕ) (c : Command) (ds : List Document) → RiseBelow place ds → RiseBelow (suc place) (documents_after place c ds)
+rises-after place (Remove name) ds h = rises-filter place (λ d. not (bytes_eq d.name name)) ds h
+rises-after place (RemoveUnder prefix) ds h = rises-filter place (λ d. not (is_under prefix d)) ds h
 rises-after place (Put name body) ds h = go (is_taken name ds)
   where
     low : All (λ d. d.number < suc place) ds

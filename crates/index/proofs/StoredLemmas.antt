@@ -477,15 +477,16 @@ RiseTo-none = record { rise = λ k inside. absurd (omega arith); below = All-nil
 -- the sets after a document is put in whose trigrams wait
 pub AreSetsOf-later : (ds : List Document) (number : ℕ) (name body : List ℕ) (old new : Sets) → AreSetsOf ds old
     → new.live.members ≡ old.live.members ++ number ∷ [] → new.postings ≡ old.postings
-    → ((n : ℕ) → is_whole new.waiting n ≡ (is_whole old.waiting n && nat_lt n number)) → AreSetsOf (ds ++ document number name body ∷ []) new
+    → ((t n : ℕ) → is_whole new.waiting t n ≡ true → (is_whole old.waiting t n ≡ true) × ((number == n) ≡ false))
+    → AreSetsOf (ds ++ document number name body ∷ []) new
 unfolding document_at or_else
 AreSetsOf-later ds number name body old new kept live same waiting = record {
   live = live ∙ (ap (λ xs. xs ++ number ∷ []) kept.live ∙ sym (map-append (λ d. d.number) ds (document number name body ∷ [])));
   postings =
       λ t n whole.
-      (let both = sym (waiting n) ∙ whole in
-      ap (λ sets. holds sets t n) same ∙ kept.postings t n (first_of (is_whole old.waiting n) (nat_lt n number) both)
-      ∙ (passed t n (document_at n ds) (number == n) (differs n (second_of (is_whole old.waiting n) (nat_lt n number) both))
+      (let both = waiting t n whole in
+      ap (λ sets. holds sets t n) same ∙ kept.postings t n both.0
+      ∙ (passed t n (document_at n ds) (number == n) both.1
       ∙ ap (λ found. trigrams_shown found t) (sym (document_at-append n ds (document number name body ∷ [])))));
   few =
       λ t n held.
@@ -493,17 +494,6 @@ AreSetsOf-later ds number name body old new kept live same waiting = record {
       ∙ stays t (document_at n ds) (document_at n (document number name body ∷ [])) (kept.few t n (sym (ap (λ sets. holds sets t n) same) ∙ held));
 }
   where
-    first_of : (a b : Bool) → (a && b) ≡ true → a ≡ true
-    first_of true b is = refl
-    first_of false b is = is
-
-    second_of : (a b : Bool) → (a && b) ≡ true → b ≡ true
-    second_of true b is = is
-    second_of false b is = absurd (false≢true is)
-
-    differs : (n : ℕ) → nat_lt n number ≡ true → (number == n) ≡ false
-    differs n below = grind (arith, nat_tests)
-
     passed : (t n : ℕ) (found : Option (List ℕ × List ℕ)) (same : Bool) → same ≡ false
         → trigrams_shown found t ≡ trigrams_shown (or_else found (cond same (Some (name, body)) None)) t
     passed t n (Some d) same e = refl
@@ -591,12 +581,13 @@ ok_holds (Err e) p done = absurd (false≢true done)
 
 -- the sets after some of the documents that wait, or all, are put into them
 pub AreSetsOf-filled : {T E : Type 0} (ds : List Document) → Numbered ds → (first : ℕ) (entries : List Entry) (old new : Sets) (r : Result T E) → AreSetsOf ds old
-    → old.waiting ≡ Some first → ((t n : ℕ) → is_listed entries t n ≡ is_waiting first ds t n) → new.live.members ≡ old.live.members
+    → ((t n : ℕ) → nat_lt n first ≡ true → is_whole old.waiting t n ≡ true) → ((t n : ℕ) → is_listed entries t n ≡ is_waiting first ds t n)
+    → new.live.members ≡ old.live.members
     → OnOk r ((t n : ℕ) → holds new.postings t n ≡ (holds old.postings t n || is_listed entries t n))
     → ((t n : ℕ) → holds old.postings t n ≡ true → holds new.postings t n ≡ true)
     → ((t n : ℕ) → holds new.postings t n ≡ true → (holds old.postings t n || is_listed entries t n) ≡ true)
     → ((new.waiting ≡ old.waiting) ⊎ IsOk r) → AreSetsOf ds new
-AreSetsOf-filled ds numbered first entries old new r kept some entries_are live ok stays grown waiting = record {
+AreSetsOf-filled ds numbered first entries old new r kept below entries_are live ok stays grown waiting = record {
   live = live ∙ kept.live;
   postings = λ t n whole. postings t n whole waiting;
   few = few;
@@ -618,17 +609,17 @@ AreSetsOf-filled ds numbered first entries old new r kept some entries_are live 
         either (holds old.postings t n) (is_listed entries t n) (trigrams_at ds n t) (grown t n held) (kept.few t n)
         (λ there. second (not (nat_lt n first)) (trigrams_at ds n t) (sym (listed_at t n) ∙ there))
 
-    before : (t n : ℕ) → nat_lt n first ≡ true → holds new.postings t n ≡ trigrams_at ds n t
-    before t n low =
+    before : (t n : ℕ) → is_whole old.waiting t n ≡ true → holds new.postings t n ≡ trigrams_at ds n t
+    before t n whole =
         both_ways (holds new.postings t n) (trigrams_at ds n t) (few t n)
-        (λ there. stays t n (kept.postings t n (rw some low) ∙ there))
+        (λ there. stays t n (kept.postings t n whole ∙ there))
 
-    postings : (t n : ℕ) → is_whole new.waiting n ≡ true → (new.waiting ≡ old.waiting) ⊎ IsOk r → holds new.postings t n ≡ trigrams_at ds n t
-    postings t n whole (inl same) = before t n (rw (same, some) at whole)
+    postings : (t n : ℕ) → is_whole new.waiting t n ≡ true → (new.waiting ≡ old.waiting) ⊎ IsOk r → holds new.postings t n ≡ trigrams_at ds n t
+    postings t n whole (inl same) = before t n (rw same at whole)
     postings t n whole (inr done) = cases (nat_lt n first) refl
       where
         cases : (low : Bool) → nat_lt n first ≡ low → holds new.postings t n ≡ trigrams_at ds n t
-        cases true e = before t n e
+        cases true e = before t n (below t n e)
         cases false e =
             let all = ok_holds r ok done in
             both_ways (holds new.postings t n) (trigrams_at ds n t) (few t n)

@@ -1,15 +1,16 @@
 -- Which documents a list of commands leaves (this program's choice).
-use Rattle.std.specs.Prelude.{◌≡◌, ◌≢◌, ℕ, suc, ◌+◌, ◌<◌, ◌==◌, ◌||◌, ◌&&◌, not, Bool, false, if◌then◌else◌, List, [], ◌∷◌, ◌++◌, map, filter, length}
+use Rattle.std.specs.Prelude.{◌≡◌, ℕ, suc, ◌+◌, ◌<◌, ◌==◌, ◌||◌, ◌&&◌, not, Bool, false, if◌then◌else◌, List, [], ◌∷◌, ◌++◌, map, filter, length}
 use Rattle.std.specs.Prelude.{All, Option, Some, None, is_some, bytes_eq, Contains, ◌↔◌}
 use Rattle.std.specs.Ordering.{nat_cmp}
 use Rattle.std.specs.Cmp.Lexicographic.{slice_cmp}
+use Rattle.std.specs.List.{list_any}
 use Rattle.std.specs.List.Sorted.{IsStrictlySortedBy}
 use Rattle.query.specs.Trigrams.{trigrams_of_body}
 use Rattle.query.specs.Query.{Formula, is_met}
 use Rattle.posting.specs.ListValue.{has}
 use Rattle.index.specs.Text.{begins_with}
 use Rattle.index.specs.declared.command.Command.{Command}
-use Rattle.index.specs.declared.command.Command.TheVariants.{Put, Remove}
+use Rattle.index.specs.declared.command.Command.TheVariants.{Put, Remove, RemoveUnder}
 
 -- A document: its number is the place, among all commands and counted from 1, of the Put that made it.
 pub record Document : Type 0 where
@@ -21,15 +22,21 @@ pub record Document : Type 0 where
 abbrev pub document : ℕ → List ℕ → List ℕ → Document
 document number name body = record { number = number; name = name; body = body }
 
--- the name that a command names
-abbrev pub name_of : Command → List ℕ
-name_of (Put name body) = name
-name_of (Remove name) = name
+-- whether the command bears on this name: a Put or a Remove on its own, a RemoveUnder on each that begins with its prefix
+abbrev pub bears_on : Command → List ℕ → Bool
+bears_on (Put name body) other = bytes_eq name other
+bears_on (Remove name) other = bytes_eq name other
+bears_on (RemoveUnder prefix) other = begins_with prefix other
 
--- whether one of the commands names this name
-unfoldable pub names : List Command → List ℕ → Bool
-names [] name = false
-names (command ∷ later) name = bytes_eq (name_of command) name || names later name
+-- whether one of the commands bears on this name
+unfoldable pub one_bears_on : List Command → List ℕ → Bool
+one_bears_on [] name = false
+one_bears_on (command ∷ later) name = bears_on command name || one_bears_on later name
+
+-- whether the command takes this name away, if a document has it
+abbrev pub takes_away : Command → List ℕ → Bool
+takes_away (Put name body) other = false
+takes_away command other = bears_on command other
 
 -- the name and the body of the document with this number
 unfoldable pub document_at : ℕ → List Document → Option (List ℕ × List ℕ)
@@ -54,12 +61,25 @@ with_body name body d = if bytes_eq d.name name then document d.number d.name bo
 abbrev pub without : List ℕ → List Document → List Document
 without name documents = filter (λ d. not (bytes_eq d.name name)) documents
 
+-- whether the document's name begins with the text
+abbrev pub is_under : List ℕ → Document → Bool
+is_under text d = begins_with text d.name
+
+-- whether the name of some document begins with the text
+abbrev pub has_under : List ℕ → List Document → Bool
+has_under text documents = list_any (is_under text) documents
+
+-- the documents whose names do not begin with the text
+abbrev pub without_under : List ℕ → List Document → List Document
+without_under text documents = filter (λ d. not (is_under text d)) documents
+
 -- The documents after one more command, which has this place among all commands, counted from 1. A Put of a name that a
 -- document has replaces its body and keeps its number.
 abbrev pub documents_after : ℕ → Command → List Document → List Document
 documents_after place (Put name body) documents =
     if is_taken name documents then map (with_body name body) documents else documents ++ document place name body ∷ []
 documents_after place (Remove name) documents = without name documents
+documents_after place (RemoveUnder prefix) documents = without_under prefix documents
 
 -- the documents after each of these commands in turn, the first of which has this place
 unfoldable pub documents_from : ℕ → List Command → List Document → List Document
@@ -72,10 +92,6 @@ documents_of commands = documents_from 1 commands []
 -- whether the trigrams of the document's body meet the formula
 abbrev pub meets : Formula → Document → Bool
 meets formula d = is_met formula (trigrams_of_body d.body)
-
--- whether the document's name begins with the text
-abbrev pub is_under : List ℕ → Document → Bool
-is_under text d = begins_with text d.name
 
 -- whether the document's number is one of these and its name begins with the text
 abbrev pub is_chosen : List ℕ → List ℕ → Document → Bool
@@ -96,16 +112,16 @@ pub record AreFirstInNameOrder (most : ℕ) (documents first : List Document) : 
   pub in_order : IsInNameOrder documents (first ++ others)
   pub all_or_most : length first < most → others ≡ []
 
--- The last of the commands that names the name is a Put with this body.
+-- The last of the commands that bears on the name is a Put of it with this body.
 pub record IsPutLast (commands : List Command) (name body : List ℕ) : Type 0 where
   pub before : List Command
   pub later : List Command
   pub put : commands ≡ before ++ Put name body ∷ later
-  pub unnamed : names later name ≡ false
+  pub untouched : one_bears_on later name ≡ false
 
--- In other words, a document has the body of the last Put of its name, which no later command names, and the place of the first
--- Put of its name since the last Remove of it: none of the commands since that Put removes the name, and of the
--- commands before it, none names the name, or the last that does is a Remove.
+-- In other words, a document has the body of the last Put of its name, on which no later command bears, and the place of the
+-- first Put of its name since it was last removed: none of the commands since that Put takes the name away, and of the commands
+-- before it, none bears on the name, or the last that does takes it away.
 pub record IsDocument (commands : List Command) (d : Document) : Type 0 where
   pub last : IsPutLast commands d.name d.body
   pub before : List Command
@@ -113,5 +129,5 @@ pub record IsDocument (commands : List Command) (d : Document) : Type 0 where
   pub since : List Command
   pub put : commands ≡ before ++ Put d.name first ∷ since
   pub number : d.number ≡ length before + 1
-  pub kept : All (λ command. command ≢ Remove d.name) since
+  pub kept : All (λ command. takes_away command d.name ≡ false) since
   pub fresh : (body : List ℕ) → IsPutLast before d.name body → ⊥

@@ -11,4 +11,6 @@ pub enum Command {
     Put(Name, Body),
     /// Removes the document with this name. If there is none, no document changes.
     Remove(Name),
+    /// Removes each document whose name begins with this prefix. If there is none, no document changes.
+    RemoveUnder(Name),
 }

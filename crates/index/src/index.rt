@@ -1,19 +1,19 @@
 //! The index: the documents that commands leave, and the sets by which they are found.
 
 ghost use Rattle.std.specs.Prelude.{◌≡◌, ℕ, List, ◌+◌, ◌^◌, ◌<◌, [], ◌∷◌, ◌++◌, map, length, OnOk};
-ghost use Rattle.std.specs.Prelude.{false, OnErr, IfErr, IfOk, IfSome, IfNone, IsOk, option_map, filter, bytes_eq, if◌then◌else◌, Some, None};
+ghost use Rattle.std.specs.Prelude.{false, OnErr, IfErr, IfOk, IfSome, IfNone, IsOk, IsTrue, IsFalse, true, option_map, filter, bytes_eq, if◌then◌else◌, Some, None};
 ghost use Rattle.std.specs.Ordering.{nat_cmp};
 ghost use Rattle.std.specs.Cmp.Lexicographic.{slice_cmp};
 ghost use Rattle.std.specs.BTreeMap.{IsUnchanged, get};
 ghost use Rattle.std.specs.List.Sorted.{IsStrictlyIncreasing};
-ghost use Rattle.index.specs.declared.command.Command.TheVariants.{Put as put_command, Remove as remove_command};
+ghost use Rattle.index.specs.declared.command.Command.TheVariants.{Put as put_command, Remove as remove_command, RemoveUnder as remove_under_command};
 ghost use Rattle.query.specs.Query.{formula_of};
 ghost use Rattle.query.specs.Trigrams.{ListsTrigrams};
 ghost use Rattle.index.specs.Text.{IsName, begins_with};
-ghost use Rattle.index.specs.Documents.{document_at, number_of, meets, is_chosen, is_under, AreFirstInNameOrder};
+ghost use Rattle.index.specs.Documents.{document_at, number_of, has_under, meets, is_chosen, is_under, AreFirstInNameOrder};
 ghost use Rattle.index.specs.State.{applied, state_of, body_bytes, IsState};
 ghost use Rattle.index.specs.Shared.{documents_shared};
-ghost use Rattle.index.specs.Private.Chosen.{document_numbered, documents_numbered, IsFirstUnder};
+ghost use Rattle.index.specs.Private.Chosen.{document_numbered, documents_numbered, IsFirstUnder, IsTakenUnder};
 ghost use Rattle.index.specs.Private.Store.{stored, IsStore, HasPlaceFor};
 
 use crate::body::Body;
@@ -22,6 +22,7 @@ use crate::document::SharedDocument;
 use crate::error::{ApplyError, NameError};
 use crate::held::Held;
 use crate::name::{MAX_NAME, Name};
+use crate::sets::Waiting;
 use crate::slots::{Occupant, occupant_at};
 use crate::store::Store;
 use posting::Trigrams;
@@ -45,7 +46,7 @@ const STRIDE: usize = 64;
 /// The documents that commands leave.
 ///
 /// A document has the body of the last `Put` of its name. Its number is the place, among all commands and counted from 1,
-/// of the first `Put` of its name since the last `Remove` of it. Contracts see an index as its state: how many
+/// of the first `Put` of its name since it was last removed. Contracts see an index as its state: how many
 /// commands were applied, and the documents.
 #[derive(Drop)]
 pub struct Index {
@@ -100,6 +101,13 @@ impl Index {
                 Ok(()) => Ok(()),
                 Err(error) => Err(ApplyError {
                     command: Command::Remove(name),
+                    error,
+                }),
+            },
+            Command::RemoveUnder(prefix) => match self.remove_under(&prefix) {
+                Ok(()) => Ok(()),
+                Err(error) => Err(ApplyError {
+                    command: Command::RemoveUnder(prefix),
                     error,
                 }),
             },
@@ -184,6 +192,21 @@ impl Index {
         self.store.fill(rt, threads)
     }
 
+    /// Puts the document that waits, if only one does, into at most `most` more of the sets of its trigrams, so that a large one can
+    /// be put in piece by piece. Returns how many of `most` are left; if that is not 0, `is_filling` is `false`. The index has the same documents in either
+    /// case. An `Err` means that memory ran out; it then still waits.
+    pub fn fill_some(&mut self, most: usize) -> Result<usize, AllocError>
+        ensures { self.new ≡ self.old }
+    {
+        self.store.fill_some(most)
+    }
+
+    /// Whether one document waits to be put into the sets of its trigrams, which `fill_some` and `fill` go on with. Until then `candidates`
+    /// answers with an `Err`.
+    pub fn is_filling(&self) -> bool {
+        matches!(self.store.sets.waiting, Some(Waiting::One(_, _)))
+    }
+
     /// Applies the `Remove` of this name. The limit on commands is that of `apply`. It takes no memory, and never
     /// returns an `Err`, although its type is that of `apply_put`.
     pub fn remove(&mut self, name: &Name) -> Result<(), AllocError>
@@ -197,6 +220,35 @@ impl Index {
         }
         self.version += 1;
         Ok(())
+    }
+
+    /// Applies the `RemoveUnder` of this prefix, in time for the documents that go. The limit on commands is that of `apply`. It
+    /// takes no memory, and never returns an `Err`, although its type is that of `apply_put`.
+    pub fn remove_under(&mut self, prefix: &Name) -> Result<(), AllocError>
+        requires { self.old.version + 1 < 2 ^ 32 }
+        ensures ok { OnOk result (self.new ≡ applied (remove_under_command prefix.now) self.old) }
+        ensures err { OnErr result (self.new ≡ self.old) }
+        ensures done { IsOk result }
+    {
+        while self.take_first_under(prefix) {}
+        self.version += 1;
+        Ok(())
+    }
+
+    /// Takes out the first document whose name begins with the prefix, and returns whether there is one. The version stays.
+    fn take_first_under(&mut self, prefix: &Name) -> bool
+        ensures taken { IsTrue result → IsTakenUnder prefix.now self.old self.new }
+        ensures none { IsFalse result → (self.new ≡ self.old) × (has_under prefix.now self.old.documents ≡ false) }
+    {
+        let Some(number) = first_number_under(&self.numbers, prefix) else {
+            return false;
+        };
+        let Some(occupant) = occupant_at(&self.store.slots, number) else {
+            return false;
+        };
+        self.numbers.remove(&occupant.name);
+        self.store.take_out(number);
+        true
     }
 
     /// The version: the number of commands that were applied.
@@ -418,6 +470,23 @@ fn first_under(alloc: Global, prefix: &[u8]) -> Result<Option<Bound<Name>>, Allo
         Err(NameError::BadByte) => Ok(None),
         Err(NameError::OutOfMemory) => Err(AllocError),
     }
+}
+
+/// The number that is entered under the first name that begins with the prefix, if there is one.
+fn first_number_under(numbers: &BTreeMap<Name, u32>, prefix: &Name) -> Option<u32>
+    ensures some { IfSome result (λ number. (name : List ℕ) × (begins_with prefix.now name ≡ true)
+        × (get (slice_cmp nat_cmp) numbers.now name ≡ Some number)) }
+    ensures none { IfNone result ((name : List ℕ) → begins_with prefix.now name ≡ true → get (slice_cmp nat_cmp) numbers.now name ≡ None) }
+{
+    let text = prefix.as_bytes();
+    let mut names = numbers.range((Bound::Included(prefix), Bound::Unbounded));
+    let Some((name, number)) = names.next() else {
+        return None;
+    };
+    if !name.as_bytes().starts_with(text) {
+        return None;
+    }
+    Some(*number)
 }
 
 /// Makes room for a new document, and enters its number under its name. Returns another handle to the name. After an `Err`

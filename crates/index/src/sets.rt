@@ -1,9 +1,10 @@
 //! The sets by which an index finds its documents.
 
-ghost use Rattle.std.specs.Prelude.{◌≡◌, ℕ, ◌<◌, All, None, nat_lt, false, not, ◌==◌, ◌||◌, ◌&&◌, [], ◌∷◌, ◌++◌, filter, OnOk, IfOk};
+ghost use Rattle.std.specs.Prelude.{◌≡◌, ℕ, ◌<◌, All, Some, None, nat_lt, true, false, not, ◌==◌, ◌||◌, ◌&&◌, [], ◌∷◌, ◌++◌, filter, OnOk, IfOk};
 ghost use Rattle.posting.specs.ListValue.{has, without, HasRoom};
-ghost use Rattle.posting.specs.Postings.{holds, SameSets, IsPrepared, IsAbsent, AllDiffer};
-ghost use Rattle.index.specs.Private.Sets.{HasRoomFor, IsNew, IsChange, is_whole};
+ghost use Rattle.posting.specs.Postings.{holds, SameSets, IsPrepared, IsAbsent, AllDiffer, is_before};
+ghost use Rattle.index.specs.declared.sets.Waiting.TheVariants.{One};
+ghost use Rattle.index.specs.Private.Sets.{HasRoomFor, IsNew, IsChange, IsPut, is_whole};
 
 use posting::{List, Postings, Trigrams};
 use std::alloc::{AllocError, Global};
@@ -17,6 +18,15 @@ pub(crate) struct Change {
     gone: Trigrams,
 }
 
+/// Which documents wait to be put into the sets of their trigrams.
+#[derive(Clone, Copy)]
+pub(crate) enum Waiting {
+    /// The one with this number, which is in the sets of its trigrams below this one.
+    One(u32, u32),
+    /// Those from this number on.
+    From(u32),
+}
+
 /// The numbers of the documents, and for each trigram those of the documents whose body has it.
 #[derive(Drop)]
 pub(crate) struct Sets {
@@ -24,8 +34,8 @@ pub(crate) struct Sets {
     pub(crate) live: List,
     /// For each trigram, the numbers of the documents whose body has it.
     pub(crate) postings: Postings,
-    /// The number from which on documents wait to be put into the sets of their trigrams, if any do.
-    pub(crate) waiting: Option<u32>,
+    /// Which documents wait to be put into the sets of their trigrams, if any do.
+    pub(crate) waiting: Option<Waiting>,
 }
 
 impl Sets {
@@ -68,8 +78,7 @@ impl Sets {
         ensures ok { IfOk result (λ change. IsChange old.now new.now change
             × IsPrepared self.new.postings number change.fresh) }
     {
-        let fresh = new.difference(old)?;
-        let gone = old.difference(new)?;
+        let (fresh, gone) = new.differences(old)?;
         self.postings.prepare(number, &fresh)?;
         Ok(Change { fresh, gone })
     }
@@ -121,19 +130,64 @@ impl Sets {
         requires above { All (λ m. m < number) self.old.live.members }
         ensures live { self.new.live.members ≡ self.old.live.members ++ number ∷ [] }
         ensures postings { self.new.postings ≡ self.old.postings }
-        ensures waiting { (n : ℕ) → is_whole self.new.waiting n ≡ (is_whole self.old.waiting n && nat_lt n number) }
+        ensures waiting { (t n : ℕ) → is_whole self.new.waiting t n ≡ true → (is_whole self.old.waiting t n ≡ true) × ((number == n) ≡ false) }
     {
         self.live.push(number);
-        self.waiting = Some(earlier(self.waiting, number));
+        self.waiting = Some(with_waiting(self.waiting, number));
+    }
+
+    /// Puts the document with this number and these trigrams, which waits, into at most `most` more of their sets, in the order of
+    /// the trigrams, from the trigram `from` on. Returns how many of `most` are left; if that is not 0, it waits no more.
+    ///
+    /// An `Err` means that memory ran out. It then still waits.
+    pub(crate) fn put_some(
+        &mut self,
+        number: u32,
+        trigrams: &Trigrams,
+        from: u32,
+        most: usize,
+    ) -> Result<usize, AllocError>
+        requires { self.old.waiting ≡ Some (One number from) }
+        ensures live { self.new.live.members ≡ self.old.live.members }
+        ensures kept { (t n : ℕ) → holds self.old.postings t n ≡ true → holds self.new.postings t n ≡ true }
+        ensures grown { (t n : ℕ) → holds self.new.postings t n ≡ true → (holds self.old.postings t n || (has trigrams.now t && number == n)) ≡ true }
+        ensures whole { (t n : ℕ) → is_whole self.new.waiting t n ≡ true
+            → IsPut self.old.waiting self.new.postings number trigrams.now t n }
+    {
+        let (next, left) = self.postings.put_some(number, trigrams, from, most)?;
+        self.waiting = still_waiting(number, next);
+        Ok(left)
     }
 }
 
-/// The lower of both numbers, or the only one.
-fn earlier(waiting: Option<u32>, number: u32) -> u32
-    ensures { (n : ℕ) → nat_lt n result ≡ (is_whole waiting n && nat_lt n number) }
+impl Waiting {
+    /// The first number of a document that waits.
+    pub(crate) fn first(self) -> u32
+        ensures { (t n : ℕ) → nat_lt n result ≡ true → is_whole (Some self) t n ≡ true }
+    {
+        match self {
+            Waiting::One(number, _) => number,
+            Waiting::From(first) => first,
+        }
+    }
+}
+
+/// What waits once the document with this number, which is above all others, waits too.
+fn with_waiting(waiting: Option<Waiting>, number: u32) -> Waiting
+    ensures { (t n : ℕ) → is_whole (Some result) t n ≡ true → (is_whole waiting t n ≡ true) × ((number == n) ≡ false) }
 {
     match waiting {
-        Some(first) => first.min(number),
-        None => number,
+        None => Waiting::One(number, 0),
+        Some(others) => Waiting::From(others.first().min(number)),
+    }
+}
+
+/// What waits if the document with this number waits for the sets of its trigrams from `next` on.
+fn still_waiting(number: u32, next: Option<u32>) -> Option<Waiting>
+    ensures { (t n : ℕ) → is_whole result t n ≡ (not (n == number) || is_before next t) }
+{
+    match next {
+        Some(trigram) => Some(Waiting::One(number, trigram)),
+        None => None,
     }
 }

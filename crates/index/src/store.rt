@@ -10,7 +10,7 @@ ghost use Rattle.index.specs.Private.Slots.{documents_in, documents_of_slot, wit
 ghost use Rattle.index.specs.Private.Store.{stored, IsStore, HasPlaceFor, IsReadyFor};
 
 use crate::held::Held;
-use crate::sets::{Change, Sets};
+use crate::sets::{Change, Sets, Waiting};
 use crate::slots::{Occupant, Slot, compact, exchange, give_back, occupant_at, take};
 use posting::{Entry, Trigrams};
 use std::alloc::{AllocError, Global};
@@ -114,10 +114,11 @@ impl Store {
         ensures documents { stored self.new ≡ stored self.old }
         ensures store { (last : ℕ) → IsStore last self.old → IsStore last self.new }
     {
-        let Some(first) = self.sets.waiting else {
+        let Some(waiting) = self.sets.waiting else {
             return Ok(());
         };
         let alloc = *self.slots.allocator();
+        let first = waiting.first();
         let entries = entries_from(alloc, first, self.slots.as_slice())?;
         match self.sets.postings.fill(rt, threads, entries.as_slice()) {
             Ok(()) => {
@@ -125,6 +126,29 @@ impl Store {
                 Ok(())
             }
             Err(error) => Err(error),
+        }
+    }
+
+    /// Puts the document that waits alone, if one does, into at most `most` more of the sets of its trigrams. Returns how many of
+    /// `most` are left; if that is not 0, it waits no more. An `Err` means that memory ran out. The documents stay as they are in
+    /// either case.
+    pub(crate) fn fill_some(&mut self, most: usize) -> Result<usize, AllocError>
+        requires { (last : ℕ) × IsStore last self.old }
+        ensures documents { stored self.new ≡ stored self.old }
+        ensures store { (last : ℕ) → IsStore last self.old → IsStore last self.new }
+    {
+        let Some(Waiting::One(number, from)) = self.sets.waiting else {
+            return Ok(most);
+        };
+        match occupant_at(&self.slots, number) {
+            Some(occupant) => {
+                self.sets
+                    .put_some(number, occupant.held.trigrams(), from, most)
+            }
+            None => {
+                self.sets.waiting = None;
+                Ok(most)
+            }
         }
     }
 

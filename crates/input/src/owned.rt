@@ -31,6 +31,9 @@ pub enum OwnedItem {
     Remove {
         name: Vec<u8>,
     },
+    RemoveUnder {
+        prefix: Vec<u8>,
+    },
     Publish,
     Search {
         case: Case,
@@ -70,6 +73,9 @@ impl OwnedItem {
             },
             Item::Remove { name } => OwnedItem::Remove {
                 name: copy_of(alloc, name)?,
+            },
+            Item::RemoveUnder { prefix } => OwnedItem::RemoveUnder {
+                prefix: copy_of(alloc, prefix)?,
             },
             Item::Publish => OwnedItem::Publish,
             Item::Search { case, pattern } => OwnedItem::Search {

@@ -389,13 +389,16 @@ left_out before rest number next after first h is =
     (rising-head next (numbers_after next after) rising) in
     sym (ap (without number) first.numbers ∙ rw same (without_absent (numbers_after next after) number above))
 
+pub not_there : (before : ℕ) (rest : List ℕ) (number next : ℕ) (after : List ℕ) → IsFirstNumber before rest next after
+    → All (λ n. number ≤ n) (numbers_after before rest) → next ≢ number → has (numbers_after before rest) number ≡ false
+not_there before rest number next after first from differs =
+    least_is number next (numbers_after before rest) from (least_first before rest next after first) ∙ grind (arith, nat_tests)
+
 pub left_as_is : (before : ℕ) (rest : List ℕ) (number next : ℕ) (after : List ℕ) → IsFirstNumber before rest next after
     → All (λ n. number ≤ n) (numbers_after before rest) → next ≢ number
     → numbers_after before rest ≡ without number (numbers_after before rest)
 left_as_is before rest number next after first from differs =
-    let absent : has (numbers_after before rest) number ≡ false =
-    least_is number next (numbers_after before rest) from (least_first before rest next after first) ∙ grind (arith, nat_tests) in
-    sym (without-lacking (numbers_after before rest) number absent)
+    sym (without-lacking (numbers_after before rest) number (not_there before rest number next after first from differs))
 
 pub next_end : (number at : ℕ) (rest : List ℕ) → length rest ≡ 0 → All (λ n. number ≤ n) (numbers_after at rest)
 next_end number at rest none = next_none number at rest (nil_from_length rest none)

@@ -1,6 +1,6 @@
 -- One set of numbers for each trigram (the posting lists of Russ Cox's "Regular Expression Matching with a
 -- Trigram Index", 2012), as a table by the trigrams' numbers.
-use Rattle.std.specs.Prelude.{◌≡◌, ◌≢◌, ℕ, ◌<◌, ◌≤◌, Bool, false, not, ◌&&◌, ◌||◌, ◌==◌, IsTrue, List, [], All, AllPairs, filter, slice_index_or}
+use Rattle.std.specs.Prelude.{◌≡◌, ◌≢◌, ℕ, ◌<◌, ◌≤◌, Bool, true, false, not, ◌&&◌, ◌||◌, ◌==◌, nat_lt, IsTrue, List, [], All, AllPairs, filter, slice_index_or, Option, Some, None}
 use Rattle.std.specs.List.{list_any}
 use Rattle.query.specs.Trigrams.{TrigramSet}
 use Rattle.query.specs.Query.{Formula, is_met}
@@ -59,6 +59,11 @@ AddsNumber old new trigrams number = (trigram n : ℕ) → holds new trigram n �
 -- whether one of these entries has the number and the trigram
 abbrev pub is_listed : List Entry → ℕ → ℕ → Bool
 is_listed entries trigram number = list_any (λ e. has e.trigrams.now trigram && e.number == number) entries
+
+-- whether the trigram comes before this one; `None` is after all
+abbrev pub is_before : Option ℕ → ℕ → Bool
+is_before None trigram = true
+is_before (Some next) trigram = nat_lt trigram next
 
 -- The number was taken out of the sets of these trigrams, and nothing else changed.
 abbrev pub WithdrawsNumber : List NumberSet → List NumberSet → List ℕ → ℕ → Type 0

@@ -182,7 +182,12 @@ fn put_all(first: usize, parts: &mut [Part], left: Left<'_>) -> Result<(), Alloc
 }
 
 /// Puts a number into the set of a trigram, if that is in these parts.
-fn put(first: usize, parts: &mut [Part], trigram: Trigram, number: u32) -> Result<(), AllocError>
+pub(crate) fn put(
+    first: usize,
+    parts: &mut [Part],
+    trigram: Trigram,
+    number: u32,
+) -> Result<(), AllocError>
     ensures grown { Grows first parts.old parts.new (λ t n. trigram == t && number == n) }
     ensures ok { OnOk result (Fills first parts.new (λ t n. trigram == t && number == n)) }
 {

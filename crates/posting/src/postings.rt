@@ -1,16 +1,16 @@
 //! The sets of all trigrams.
 
-ghost use Rattle.std.specs.Prelude.{◌≡◌, ◌≢◌, ℕ, ◌<◌, ◌≤◌, ◌||◌, ◌==◌, true, false, [], ◌∷◌, filter, map, IfOk, IfSome, IfNone, OnOk, IsTrue};
+ghost use Rattle.std.specs.Prelude.{◌≡◌, ◌≢◌, ℕ, ◌<◌, ◌≤◌, ◌||◌, ◌&&◌, ◌==◌, true, false, [], ◌∷◌, filter, map, IfOk, IfSome, IfNone, OnOk, IsTrue};
 ghost use Rattle.std.specs.List.{list_all};
 ghost use Rattle.query.specs.Query.{formula_of, formulas_of, texts, all_of, one_of};
 ghost use Rattle.query.specs.Pairs.{texts_in};
 ghost use Rattle.posting.specs.ListValue.{has, without};
 ghost use Rattle.posting.specs.Postings.{slot_limit, set_of, holds, IsPrepared, IsAbsent, AllDiffer};
-ghost use Rattle.posting.specs.Postings.{SameSets, KeepsRoom, is_listed, AddsNumber, WithdrawsNumber, GivesBack, selected, trigrams_with};
+ghost use Rattle.posting.specs.Postings.{SameSets, KeepsRoom, is_listed, is_before, AddsNumber, WithdrawsNumber, GivesBack, selected, trigrams_with};
 ghost use Rattle.posting.specs.Private.Sets.{members_of};
 ghost use Rattle.posting.specs.Private.Selection.{Finds};
 
-use crate::filling::{Entry, fill_parts};
+use crate::filling::{Entry, fill_parts, put};
 use crate::list::{List, union_of};
 use crate::part::{PARTS, Part, Set, part_of, place_in_part};
 use crate::trigrams::Trigrams;
@@ -120,6 +120,42 @@ impl Postings {
     {
         let alloc = self.parts[0].allocator();
         fill_parts(rt, alloc, threads, 0, self.parts.as_mut_slice(), entries)
+    }
+
+    /// Puts the number into the sets of these trigrams from the trigram `from` on, into at most `most` sets. A number that is in a
+    /// set already stays there. Returns the first trigram into whose set it did not get, `None` if there is none, and how many of
+    /// `most` are left.
+    ///
+    /// An `Err` means that memory ran out. The number may then be in some of the sets; no set has lost a number.
+    pub fn put_some(
+        &mut self,
+        number: u32,
+        trigrams: &Trigrams,
+        from: u32,
+        most: usize,
+    ) -> Result<(Option<u32>, usize), AllocError>
+        ensures ok { IfOk result (λ done. (t : ℕ) → has trigrams.now t ≡ true → from ≤ t → is_before done.0 t ≡ true → holds self.new t number ≡ true) }
+        ensures kept { (t n : ℕ) → holds self.old t n ≡ true → holds self.new t n ≡ true }
+        ensures grown { (t n : ℕ) → holds self.new t n ≡ true → (holds self.old t n || (has trigrams.now t && number == n)) ≡ true }
+    {
+        let mut rest = trigrams.iter_from(from);
+        let mut left = most;
+        while let Some(trigram) = rest.next() {
+            if left == 0 {
+                return Ok((Some(trigram.number()), 0));
+            }
+            self.put(trigram, number)?;
+            left -= 1;
+        }
+        Ok((None, left))
+    }
+
+    fn put(&mut self, trigram: Trigram, number: u32) -> Result<(), AllocError>
+        ensures ok { OnOk result ((t n : ℕ) → holds self.new t n ≡ (holds self.old t n || (trigram == t && number == n))) }
+        ensures kept { (t n : ℕ) → holds self.old t n ≡ true → holds self.new t n ≡ true }
+        ensures grown { (t n : ℕ) → holds self.new t n ≡ true → (holds self.old t n || (trigram == t && number == n)) ≡ true }
+    {
+        put(0, self.parts.as_mut_slice(), trigram, number)
     }
 
     /// The numbers of `live` whose trigrams meet the query. The trigrams of a number are those whose sets have it.

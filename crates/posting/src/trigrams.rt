@@ -2,6 +2,7 @@
 
 ghost use Rattle.std.specs.Prelude.{◌≡◌, ◌<◌, not, filter, IfOk};
 ghost use Rattle.posting.specs.ListValue.{has};
+ghost use Rattle.posting.specs.Private.Gaps.{not_below};
 ghost use Rattle.std.specs.List.Sorted.{IsStrictlyIncreasing};
 ghost use Rattle.std.specs.Iterator.{YieldsFirst, item_count};
 
@@ -47,14 +48,15 @@ impl Trigrams {
         Ok(Trigrams { numbers })
     }
 
-    /// The trigrams that the other has not.
+    /// The trigrams that the other has not, and those of the other that these have not.
     ///
     /// An `Err` means that memory ran out.
-    pub fn difference(&self, other: &Trigrams) -> Result<Trigrams, AllocError>
-        ensures { IfOk result (λ rest. rest ≡ filter (λ t. not (has other.now t)) self.now) }
+    pub fn differences(&self, other: &Trigrams) -> Result<(Trigrams, Trigrams), AllocError>
+        ensures own { IfOk result (λ both. both.0 ≡ filter (λ t. not (has other.now t)) self.now) }
+        ensures others { IfOk result (λ both. both.1 ≡ filter (λ t. not (has self.now t)) other.now) }
     {
-        let numbers = self.numbers.difference(&other.numbers)?;
-        Ok(Trigrams { numbers })
+        let (own, others) = self.numbers.differences(&other.numbers)?;
+        Ok((Trigrams { numbers: own }, Trigrams { numbers: others }))
     }
 
     /// The trigrams, rising.
@@ -63,6 +65,16 @@ impl Trigrams {
     {
         TrigramsIterator {
             numbers: self.numbers.numbers(),
+        }
+    }
+
+    /// The trigrams from this number on, rising.
+    pub(crate) fn iter_from(&self, number: u32) -> TrigramsIterator<'_>
+        ensures trigrams { result ≡ not_below number self.now }
+        ensures rising { IsStrictlyIncreasing self.now }
+    {
+        TrigramsIterator {
+            numbers: self.numbers.numbers_from(number),
         }
     }
 }

@@ -27,6 +27,7 @@ options_of settings = record {
   max_commands = settings.max_commands;
   lengths = lengths_of settings;
   search_ms = settings.search_ms;
+  times = settings.times;
 }
 
 abbrev pub live_options_of : Settings → LiveOptions
@@ -35,6 +36,7 @@ live_options_of settings = record {
   max_commands = settings.max_commands;
   lengths = lengths_of settings;
   search_ms = settings.search_ms;
+  times = settings.times;
   stats = settings.stats;
 }
 

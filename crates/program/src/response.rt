@@ -157,6 +157,7 @@ fn run_script<R: Threads + Wait + Clock + Sync, D: Disk, I: Read + Drop, O: Writ
         max_commands: settings.max_commands,
         lengths: lengths_of(settings),
         search_ms: settings.search_ms,
+        times: settings.times,
     };
     let transcript = match run(rt, alloc, &script, options, source, &Open) {
         Ok(transcript) => transcript,

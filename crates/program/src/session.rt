@@ -93,6 +93,7 @@ fn serve_reader<
         max_commands: settings.max_commands,
         lengths: lengths_of(settings),
         search_ms: settings.search_ms,
+        times: settings.times,
         stats: settings.stats,
     };
     match serve(rt, alloc, reader, options, source, out, Open) {

@@ -4,8 +4,9 @@ use Rattle.std.proofs.Common.{length-append, not, ◌&&◌, ◌||◌}
 use Rattle.std.specs.Prelude.{bytes_eq}
 use Rattle.std.proofs.lemmas.List.{length-take, take-append-le}
 use Rattle.std.proofs.Math.Seq.{take-length}
+use Rattle.index.specs.Text.{begins_with}
 use Rattle.index.specs.declared.command.Command.{Command}
-use Rattle.index.specs.declared.command.Command.TheVariants.{Put, Remove}
+use Rattle.index.specs.declared.command.Command.TheVariants.{Put, Remove, RemoveUnder}
 use Rattle.published.specs.History.{Known}
 use Rattle.published.specs.Private.Names.{has_name}
 use Rattle.published.specs.Desk.{DeskState, desk_state, with_command, has_document}
@@ -14,7 +15,7 @@ use Rattle.published.specs.declared.shelf.Update.{Update}
 use Rattle.published.specs.Private.Shelf.{command_of}
 use Rattle.published.specs.Private.Copies.{CopiesState, copies_state}
 use Rattle.published.specs.Private.DeskParts.{Begins, HasNamesOf}
-use Rattle.published.proofs.DocumentNames.{has_document-put, has_document-remove}
+use Rattle.published.proofs.DocumentNames.{has_document-put, has_document-remove, has_document-remove_under}
 
 -- commands begin themselves
 pub begins_same : (commands accepted : List Command) → accepted ≡ commands → Begins commands accepted
@@ -66,3 +67,11 @@ noted_remove commands names names' n n' same was now = λ name.
     now name
     ∙ (ap (λ b. not (bytes_eq n name) && b) (was name)
     ∙ (ap (λ m. not (bytes_eq m name) && has_document commands name) (sym same) ∙ sym (has_document-remove commands n' name)))
+
+pub noted_remove_under : (commands : List Command) (names names' : Names) (n n' : List ℕ) → n' ≡ n
+    → HasNamesOf names commands → ((name : List ℕ) → has_name names' name ≡ (not (begins_with n name) && has_name names name))
+    → HasNamesOf names' (commands ++ RemoveUnder n' ∷ [])
+noted_remove_under commands names names' n n' same was now = λ name.
+    now name
+    ∙ (ap (λ b. not (begins_with n name) && b) (was name)
+    ∙ (ap (λ m. not (begins_with m name) && has_document commands name) (sym same) ∙ sym (has_document-remove_under commands n' name)))

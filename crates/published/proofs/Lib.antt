@@ -1,6 +1,7 @@
 pub mod Beginnings
 pub mod Turns
 pub mod NameLemmas
+pub mod UnderNames
 pub mod DocumentNames
 pub mod ShelfLemmas
 pub mod DeskLemmas

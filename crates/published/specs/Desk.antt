@@ -2,7 +2,7 @@
 use Rattle.std.specs.Prelude.{◌≡◌, ℕ, ◌<◌, Bool, true, false, List, [], ◌∷◌, ◌++◌, length, is_some}
 use Rattle.logbook.specs.Pages.{Book}
 use Rattle.index.specs.declared.command.Command.{Command}
-use Rattle.index.specs.Documents.{documents_of, number_of}
+use Rattle.index.specs.Documents.{documents_of, number_of, has_under}
 use Rattle.published.specs.declared.error.PutErrorKind.{PutErrorKind}
 use Rattle.published.specs.declared.error.PutErrorKind.TheVariants as put_error
 use Rattle.published.specs.declared.error.RemoveError.{RemoveError}
@@ -38,13 +38,17 @@ HasRoom desk = length desk.accepted < desk.limit
 abbrev pub has_document : List Command → List ℕ → Bool
 has_document commands name = is_some (number_of name (documents_of commands))
 
+-- whether there is a document after these commands whose name begins with the text
+abbrev pub has_document_under : List Command → List ℕ → Bool
+has_document_under commands text = has_under text (documents_of commands)
+
 -- the first cause for which a put is refused
 abbrev pub IsPutFault : PutErrorKind → DeskState → Type 0
 IsPutFault put_error.Full desk = IsFull desk
 IsPutFault put_error.OutOfMemory desk = HasRoom desk
 
--- the first cause for which the remove of a name is refused
-abbrev pub IsRemoveFault : RemoveError → List ℕ → DeskState → Type 0
-IsRemoveFault remove_error.NoSuchFile name desk = has_document desk.accepted name ≡ false
-IsRemoveFault remove_error.Full name desk = (has_document desk.accepted name ≡ true) × IsFull desk
-IsRemoveFault remove_error.OutOfMemory name desk = (has_document desk.accepted name ≡ true) × HasRoom desk
+-- the first cause for which a remove is refused; found: whether there is a document to be removed
+abbrev pub IsRemoveFault : RemoveError → Bool → DeskState → Type 0
+IsRemoveFault remove_error.NoSuchFile found desk = found ≡ false
+IsRemoveFault remove_error.Full found desk = (found ≡ true) × IsFull desk
+IsRemoveFault remove_error.OutOfMemory found desk = (found ≡ true) × HasRoom desk

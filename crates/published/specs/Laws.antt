@@ -1,5 +1,5 @@
 -- What a desk is refused for is determined.
-use Rattle.std.specs.Prelude.{◌≡◌, ℕ, List}
+use Rattle.std.specs.Prelude.{◌≡◌, Bool}
 use Rattle.published.specs.Desk.{DeskState, IsPutFault, IsRemoveFault}
 use Rattle.published.specs.declared.error.PutErrorKind.{PutErrorKind}
 use Rattle.published.specs.declared.error.RemoveError.{RemoveError}
@@ -8,7 +8,7 @@ use Rattle.published.specs.declared.error.RemoveError.{RemoveError}
 abbrev pub PutFaultsAreOne : Type 0
 PutFaultsAreOne = (desk : DeskState) (fault fault' : PutErrorKind) → IsPutFault fault desk → IsPutFault fault' desk → fault ≡ fault'
 
--- The remove of a name has one fault at most.
+-- A remove has one fault at most.
 abbrev pub RemoveFaultsAreOne : Type 0
 RemoveFaultsAreOne =
-    (desk : DeskState) (name : List ℕ) (fault fault' : RemoveError) → IsRemoveFault fault name desk → IsRemoveFault fault' name desk → fault ≡ fault'
+    (desk : DeskState) (found : Bool) (fault fault' : RemoveError) → IsRemoveFault fault found desk → IsRemoveFault fault' found desk → fault ≡ fault'

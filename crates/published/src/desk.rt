@@ -1,14 +1,14 @@
 //! The desk: it accepts commands, and publishes them.
 
 ghost use Rattle.std.specs.Prelude.{◌≡◌, ℕ, ◌≤◌, List, [], length, true, false, IfSome, IfOk, IfErr, OnOk, OnErr, MatchBool};
-ghost use Rattle.index.specs.declared.command.Command.TheVariants.{Put as put_command, Remove as remove_command};
+ghost use Rattle.index.specs.declared.command.Command.TheVariants.{Put as put_command, Remove as remove_command, RemoveUnder as remove_under_command};
 ghost use Rattle.published.specs.History.{known};
 ghost use Rattle.history.specs.History.{head_of};
 ghost use Rattle.published.specs.Private.Names.{has_name};
 ghost use Rattle.published.specs.Private.Copies.{copies_state};
 ghost use Rattle.published.specs.Private.DeskParts.{Begins, HasNamesOf};
 ghost use Rattle.published.specs.declared.opening.TheConstants.{MAX_COMMANDS};
-ghost use Rattle.published.specs.Desk.{desk_state, with_command, all_published, IsFull, HasRoom, has_document, IsPutFault, IsRemoveFault};
+ghost use Rattle.published.specs.Desk.{desk_state, with_command, all_published, IsFull, HasRoom, has_document, has_document_under, IsPutFault, IsRemoveFault};
 
 use crate::batches::{Batch, Front, Head};
 use crate::copies::Copies;
@@ -188,7 +188,7 @@ impl Desk {
         ensures there { OnOk result (has_document self.old.accepted name.now ≡ true) }
         ensures count { IfOk result (λ n. n ≡ length self.new.accepted) }
         ensures err { OnErr result (self.new ≡ self.old) }
-        ensures fault { IfErr result (λ e. IsRemoveFault e name.now self.old) }
+        ensures fault { IfErr result (λ e. IsRemoveFault e (has_document self.old.accepted name.now) self.old) }
     {
         if !self.names.has(name) {
             return Err(RemoveError::NoSuchFile);
@@ -208,6 +208,47 @@ impl Desk {
         let own = name.share()?;
         self.copies.accept(Update::Remove(own))?;
         self.names.remove(name);
+        self.accepted += 1;
+        Ok(())
+    }
+
+    /// Accepts the remove of all documents whose names begin with the prefix, and returns the number of accepted commands, with
+    /// this one. It takes time and memory for the names that go.
+    ///
+    /// An `Err` is the first cause, in the order of `RemoveError`. Nothing has changed then.
+    pub fn remove_under(&mut self, prefix: &Name) -> Result<u32, RemoveError>
+        ensures ok { OnOk result ((self.new ≡ with_command (remove_under_command prefix.now) self.old) × HasRoom self.old) }
+        ensures there { OnOk result (has_document_under self.old.accepted prefix.now ≡ true) }
+        ensures count { IfOk result (λ n. n ≡ length self.new.accepted) }
+        ensures err { OnErr result (self.new ≡ self.old) }
+        ensures fault { IfErr result (λ e. IsRemoveFault e (has_document_under self.old.accepted prefix.now) self.old) }
+    {
+        if !self.has_under(prefix) {
+            return Err(RemoveError::NoSuchFile);
+        }
+        if self.is_full() {
+            return Err(RemoveError::Full);
+        }
+        self.accept_remove_under(prefix)?;
+        Ok(self.accepted)
+    }
+
+    /// Whether the name of some document begins with the prefix, after all accepted commands.
+    fn has_under(&self, prefix: &Name) -> bool
+        ensures { result ≡ has_document_under self.now.accepted prefix.now }
+    {
+        self.names.has_under(prefix)
+    }
+
+    fn accept_remove_under(&mut self, prefix: &Name) -> Result<(), AllocError>
+        requires { HasRoom self.old }
+        ensures ok { OnOk result (self.new ≡ with_command (remove_under_command prefix.now) self.old) }
+        ensures err { OnErr result (self.new ≡ self.old) }
+    {
+        let own = prefix.share()?;
+        let gone = self.names.under(prefix)?;
+        self.copies.accept(Update::RemoveUnder(own))?;
+        self.names.remove_all(&gone);
         self.accepted += 1;
         Ok(())
     }

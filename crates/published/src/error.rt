@@ -57,7 +57,7 @@ pub struct PutError {
 /// Why a remove is refused. The causes are checked in this order.
 #[derive(Clone, Copy, Debug, PartialEq, Eq)]
 pub enum RemoveError {
-    /// There is no document of this name after all accepted commands.
+    /// There is no document of this name, or under this prefix, after all accepted commands.
     NoSuchFile,
     /// The greatest number of commands has been accepted already.
     Full,

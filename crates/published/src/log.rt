@@ -22,6 +22,8 @@ pub(crate) struct Log {
     pub(crate) pending: VecDeque<Operation>,
     /// How many of the pending operations, from the first one on, the spare copy has.
     pub(crate) ahead: usize,
+    /// Whether a document waits on the spare copy to be put further into the sets of its trigrams. No contract depends on it.
+    is_filling: bool,
     ghost within: { ahead ≤ length pending.items },
 }
 
@@ -36,6 +38,7 @@ impl Log {
             behind: VecDeque::new(alloc),
             pending: VecDeque::new(alloc),
             ahead: 0,
+            is_filling: false,
         }
     }
 
@@ -66,8 +69,12 @@ impl Log {
         Ok(())
     }
 
-    /// Whether the operation that the spare copy lacks first can be carried out: a body that it brings is analysed.
+    /// Whether a document waits, or the operation that the spare copy lacks first can be carried out: a body that it brings is
+    /// analysed.
     pub(crate) fn is_ready(&self) -> bool {
+        if self.is_filling {
+            return true;
+        }
         match self.behind.front().or(self.pending.get(self.ahead)) {
             Some(next) => next.is_ready(),
             None => false,
@@ -82,9 +89,19 @@ impl Log {
     }
 
     /// Carries out on the spare copy what it lacks, the first operation first, until that comes to about `most` bytes of
-    /// bodies. Returns how much of `most` is left; if that is not 0, the copy has each operation. An `Err` means that memory
-    /// ran out for an operation, or that its body is not analysed; it stays in the log with those after it.
+    /// bodies, but first goes on with a document that waits. Returns how much of `most` is left; if that is not 0, the copy has each
+    /// operation. An `Err` means that memory ran out, or that the body of an operation is not analysed; it stays in the log with
+    /// those after it.
     pub(crate) fn bring_up(&mut self, spare: &mut Shelf, most: usize) -> Result<usize, AllocError>
+        ensures step { (shown : Shelf) → InStep shown spare.old self.old → InStep shown spare.new self.new }
+        ensures pending { self.new.pending.items ≡ self.old.pending.items }
+    {
+        let left = self.carry_on(spare, most);
+        self.is_filling = spare.is_filling();
+        left
+    }
+
+    fn carry_on(&mut self, spare: &mut Shelf, most: usize) -> Result<usize, AllocError>
         ensures step { (shown : Shelf) → InStep shown spare.old self.old → InStep shown spare.new self.new }
         ensures pending { self.new.pending.items ≡ self.old.pending.items }
     {
@@ -124,16 +141,19 @@ impl Log {
             behind,
             pending,
             ahead: _,
+            is_filling: _,
         } = self;
         Log {
             behind: pending,
             pending: behind,
             ahead: 0,
+            is_filling: false,
         }
     }
 }
 
-/// Carries out what the spare copy lacks of the one that is shown. Returns how much of `most` is left.
+/// Puts a document that waits further into the sets of its trigrams, and then carries out what the spare copy lacks of the one that
+/// is shown, of which a large new document waits in turn. Returns how much of `most` is left.
 fn make_up(
     spare: &mut Shelf,
     behind: &mut VecDeque<Operation>,
@@ -142,15 +162,15 @@ fn make_up(
     ensures same { fold operated spare.new behind.new.items ≡ fold operated spare.old behind.old.items }
     ensures all { IfOk result (λ left. 0 < left → behind.new.items ≡ []) }
 {
-    let mut left = most;
+    let mut left = spare.fill_some(most)?;
     while left > 0 {
         let Some(first) = behind.front() else {
             return Ok(left);
         };
         let work = spare.work(first);
-        spare.carry_out(first, false)?;
+        spare.carry_out(first, first.is_large())?;
         let _ = behind.pop_front();
-        left = left.saturating_sub(work);
+        left = spare.fill_some(left.saturating_sub(work))?;
     }
     Ok(0)
 }
@@ -174,9 +194,9 @@ fn run_ahead(
             return Ok(left);
         };
         let work = spare.work(next);
-        spare.carry_out(next, false)?;
+        spare.carry_out(next, next.is_large())?;
         *ahead += 1;
-        left = left.saturating_sub(work);
+        left = spare.fill_some(left.saturating_sub(work))?;
     }
     Ok(0)
 }

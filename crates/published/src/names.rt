@@ -1,16 +1,20 @@
 //! The names of the documents after all accepted commands.
 
 ghost use Rattle.std.specs.Prelude.{◌≡◌, ℕ, List, Bool, false, not, ◌&&◌, ◌||◌, IfOk, OnErr, bytes_eq};
-ghost use Rattle.published.specs.Private.Names.{has_name};
+ghost use Rattle.index.specs.Text.{begins_with};
+ghost use Rattle.std.specs.List.{list_any};
+ghost use Rattle.published.specs.Private.Names.{has_name, has_name_under, names_under};
 
 use index::Name;
 use std::alloc::{AllocError, Global};
 use std::collections::BTreeSet;
+use std::ops::Bound;
 
 /// A set of names.
 #[derive(Drop)]
 pub struct Names {
     names: BTreeSet<Name>,
+    alloc: Global,
 }
 
 impl Names {
@@ -20,6 +24,7 @@ impl Names {
     {
         Names {
             names: BTreeSet::new(alloc),
+            alloc,
         }
     }
 
@@ -45,4 +50,51 @@ impl Names {
     {
         self.names.remove(name);
     }
+
+    /// Whether some name in the set begins with the prefix.
+    pub(crate) fn has_under(&self, prefix: &Name) -> bool
+        ensures { result ≡ has_name_under self.now prefix.now }
+    {
+        let mut from = self
+            .names
+            .range((Bound::Included(prefix), Bound::Unbounded));
+        match from.next() {
+            Some(name) => begins(name, prefix),
+            None => false,
+        }
+    }
+
+    /// Handles to the names in the set that begin with the prefix. An `Err` means that memory ran out, or that a name has too many
+    /// handles.
+    pub(crate) fn under(&self, prefix: &Name) -> Result<Vec<Name>, AllocError>
+        ensures { IfOk result (λ found. found.items ≡ names_under self.now prefix.now) }
+    {
+        let mut found = Vec::new(self.alloc);
+        for name in self
+            .names
+            .range((Bound::Included(prefix), Bound::Unbounded))
+        {
+            if !begins(name, prefix) {
+                return Ok(found);
+            }
+            found.push(name.share()?)?;
+        }
+        Ok(found)
+    }
+
+    /// Takes these names out of the set.
+    pub(crate) fn remove_all(&mut self, names: &[Name])
+        ensures { (other : List ℕ) → has_name self.new other ≡ (not (list_any (λ name. bytes_eq name other) names.now) && has_name self.old other) }
+    {
+        for name in names {
+            self.remove(name);
+        }
+    }
+}
+
+/// Whether the name begins with the prefix.
+fn begins(name: &Name, prefix: &Name) -> bool
+    ensures { result ≡ begins_with prefix.now name.now }
+{
+    name.as_bytes().starts_with(prefix.as_bytes())
 }

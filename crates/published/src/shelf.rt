@@ -15,6 +15,16 @@ use std::thread::Threads;
 /// How much work an operation without a body is, in bytes of bodies.
 const LEAST_WORK: usize = 256;
 
+/// A new document with so many bytes is put into the sets of its trigrams piece by piece.
+const LARGE: usize = 8_192;
+
+/// How much work it is to put a document into the set of a trigram, in bytes of bodies: a usual text has one for each eight bytes.
+const TRIGRAM_WORK: usize = 8;
+
+/// What a remove of all names under a prefix counts as, in bytes of bodies: more than a piece of work has, since its documents are
+/// not counted, and far less than all of a publish may have.
+const WORK_UNDER_A_PREFIX: usize = 1 << 30;
+
 /// A command whose name and body are shared by both copies.
 #[derive(Drop)]
 pub enum Update {
@@ -22,6 +32,8 @@ pub enum Update {
     Put(Name, Incoming),
     /// A remove of this name.
     Remove(Name),
+    /// A remove of all names that begin with this prefix.
+    RemoveUnder(Name),
 }
 
 /// What is done to both copies.
@@ -76,6 +88,14 @@ impl Operation {
         }
     }
 
+    /// Whether it brings a large body.
+    pub(crate) fn is_large(&self) -> bool {
+        match self {
+            Operation::Change(Update::Put(_, incoming)) => incoming.len() >= LARGE,
+            _ => false,
+        }
+    }
+
     /// Whether it can be carried out: a body that it brings is analysed.
     pub(crate) fn is_ready(&self) -> bool {
         match self {
@@ -88,7 +108,7 @@ impl Operation {
 impl Shelf {
     ghost use Rattle.published.specs.Private.Shelf.{operated};
 
-    /// Carries out the operation; if `later`, a new document waits for `fill`. After an `Err`, which means that memory ran out or that a body is not analysed, nothing has
+    /// Carries out the operation; if `later`, a new document waits for `fill` or `fill_some`. After an `Err`, which means that memory ran out or that a body is not analysed, nothing has
     /// changed.
     pub(crate) fn carry_out(&mut self, operation: &Operation, later: bool) -> Result<(), AllocError>
         ensures ok { OnOk result (self.new ≡ operated self.old operation.now) }
@@ -113,28 +133,46 @@ impl Shelf {
         self.index.fill(rt, threads)
     }
 
-    /// About how much work the operation is: the bytes of the body that it brings and of the one that it takes away, and
-    /// `LEAST_WORK` more.
+    /// Puts a document that waits further into the sets of its trigrams: into as many as come to about `most` bytes of bodies, and one
+    /// at least. Returns how much of `most` is left, which is 0 if it still waits. An `Err` means that memory ran out.
+    pub(crate) fn fill_some(&mut self, most: usize) -> Result<usize, AllocError>
+        ensures { self.new ≡ self.old }
+    {
+        let sets = (most / TRIGRAM_WORK).max(1);
+        let left = self.index.fill_some(sets)?;
+        if self.index.is_filling() {
+            return Ok(0);
+        }
+        let work = sets.saturating_sub(left).saturating_mul(TRIGRAM_WORK);
+        Ok(most.saturating_sub(work))
+    }
+
+    /// Whether a document waits that `fill_some` goes on with.
+    pub(crate) fn is_filling(&self) -> bool {
+        self.index.is_filling()
+    }
+
+    /// About how much work it is to carry the operation out: the bytes of the body that it brings and of the one that it takes
+    /// away, and `LEAST_WORK` more. The body of a large new document is left to `fill_some`.
     pub(crate) fn work(&self, operation: &Operation) -> usize {
         let bytes = match operation {
-            Operation::Change(Update::Put(name, incoming)) => {
-                incoming.len().saturating_add(self.bytes_of(name))
-            }
-            Operation::Change(Update::Remove(name)) => self.bytes_of(name),
+            Operation::Change(Update::Put(name, incoming)) => match self.bytes_of(name) {
+                None if operation.is_large() => 0,
+                None => incoming.len(),
+                Some(taken) => incoming.len().saturating_add(taken),
+            },
+            Operation::Change(Update::Remove(name)) => self.bytes_of(name).unwrap_or(0),
+            Operation::Change(Update::RemoveUnder(_)) => WORK_UNDER_A_PREFIX,
             Operation::Stamp(_) => 0,
         };
         bytes.saturating_add(LEAST_WORK)
     }
 
-    /// The bytes of the body of the document with this name; 0 if there is none.
-    fn bytes_of(&self, name: &Name) -> usize {
-        let Some(number) = self.index.number(name) else {
-            return 0;
-        };
-        match self.index.document(number) {
-            Some((_, body)) => body.as_bytes().len(),
-            None => 0,
-        }
+    /// The bytes of the body of the document with this name, if there is one.
+    fn bytes_of(&self, name: &Name) -> Option<usize> {
+        let number = self.index.number(name)?;
+        let (_, body) = self.index.document(number)?;
+        Some(body.as_bytes().len())
     }
 }
 
@@ -154,6 +192,7 @@ fn change(index: &mut Index, update: &Update, later: bool) -> Result<(), AllocEr
             None => Err(AllocError),
         },
         Update::Remove(name) => index.remove(name),
+        Update::RemoveUnder(prefix) => index.remove_under(prefix),
     }
 }
 

@@ -4,7 +4,7 @@ use Rattle.std.proofs.lemmas.Slice.Eq.{bytes_eq-Decides}
 use Rattle.request.specs.Names.{clashes, excludes, is_repeatable, is_same, option_named, text_of}
 use Rattle.request.specs.declared.names.OptionName.{OptionName}
 use Rattle.request.specs.declared.names.OptionName.TheVariants.{IgnoreCase, Literal, WholeWords, WholeLines, Invert, Named, NotNamed}
-use Rattle.request.specs.declared.names.OptionName.TheVariants.{IgnoreNameCase, Limit, Names, Counts, Header, Context, Column, Spans, Zero}
+use Rattle.request.specs.declared.names.OptionName.TheVariants.{IgnoreNameCase, Limit, Names, Counts, Header, Context, Column, Spans, Zero, Lane}
 
 -- The word of an option names it.
 pub named_back : (name : OptionName) → option_named (text_of name) ≡ Some name
@@ -25,6 +25,7 @@ named_back Context = refl
 named_back Column = refl
 named_back Spans = refl
 named_back Zero = refl
+named_back Lane = refl
 
 pub same_name : (left right : OptionName) → is_same left right ≡ true → left ≡ right
 same_name left right h =

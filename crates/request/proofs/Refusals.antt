@@ -6,15 +6,15 @@ use Rattle.std.proofs.lemmas.Bool.Decides.{nat_tests}
 use Rattle.std.proofs.lemmas.List.{append-nil}
 use Rattle.request.specs.Faults.{IsFaultAt, IsFirstFault, IsNamed, first_clash, reason_of}
 use Rattle.request.specs.Find.{HasNoFind, IsFindOf, Options, SpellsFind, options_of}
-use Rattle.request.specs.Names.{clashes, is_same, option_named, range_text, takes, text_of}
+use Rattle.request.specs.Names.{clashes, is_same, option_named, takes}
 use Rattle.request.specs.Settings.{Argument, IsAllowed, Setting, SpellsArgument, SpellsSetting, SpellsSettings, count_of, greatest_times, number}
 use Rattle.request.specs.Settings.{SpellsSettings as spelled}
 use Rattle.request.specs.Words.{after_word, first_word}
 use Rattle.request.specs.declared.fault.FindFault.{FindFault}
-use Rattle.request.specs.declared.fault.FindFault.TheVariants.{BadOption, Twice, TooOften, NeedsNumber, Exclude, NoSeparator, OutOfMemory}
+use Rattle.request.specs.declared.fault.FindFault.TheVariants.{BadOption, Twice, TooOften, NeedsNumber, NeedsWord, Exclude, NoSeparator, OutOfMemory}
 use Rattle.request.specs.declared.names.OptionName.{OptionName}
 use Rattle.request.specs.declared.names.Takes.{Takes}
-use Rattle.request.specs.declared.names.Takes.TheVariants.{Nothing, Word, Number}
+use Rattle.request.specs.declared.names.Takes.TheVariants.{Nothing, Word, ShortWord, Number}
 use Rattle.request.proofs.ListLemmas.{count_by-append, pair_at}
 use Rattle.request.proofs.SettingLemmas.{counted, no_clash}
 use Rattle.request.proofs.NameLemmas.{no_option, no_word, same_itself, same_name}
@@ -23,6 +23,7 @@ one_argument : (taken : Takes) (from left right : List ℕ) (a b : Argument) →
     → (left ≡ right) × (a ≡ b)
 one_argument Nothing from left right a b h k = (h.0 ∙ sym k.0, h.1 ∙ sym k.1)
 one_argument Word from left right a b h k = (h.1 ∙ sym k.1, h.2 ∙ sym k.2)
+one_argument (ShortWord most) from left right a b h k = (h.2 ∙ sym k.2, h.3 ∙ sym k.3)
 one_argument (Number least greatest) from left right a b h k =
     let same : h.0 ≡ k.0 = h.1.is_value ∙ sym k.1.is_value in
     (h.4 ∙ sym k.4, h.5 ∙ ap number same ∙ sym k.5)
@@ -120,6 +121,11 @@ module _ (rest : List ℕ) (settings : List Setting) where
       let taken : takes setting.name ≡ Number h.2 h.3 = ap takes same ∙ h.4 in
       let number = subst (λ t. SpellsArgument t (after_word rest) middle setting.argument) taken one.followed in
       h.5 number.0 number.1 number.2 number.3
+  refused (NeedsWord name) real h setting middle others one allowed =
+      let same : setting.name ≡ name = one_name rest setting.name name one.named h.0 in
+      let taken : takes setting.name ≡ ShortWord h.2 = ap takes same ∙ h.3 in
+      let word = subst (λ t. SpellsArgument t (after_word rest) middle setting.argument) taken one.followed in
+      h.4 word.0 word.1
   refused NoSeparator real (inl nothing) setting middle others one allowed =
       let both : None ≡ Some setting.name = sym no_word ∙ ap (λ t. option_named (first_word t)) (sym nothing) ∙ one.named in absurd (cc both)
   refused NoSeparator real (inr h) setting middle others one allowed =
@@ -136,6 +142,7 @@ module _ (rest : List ℕ) (settings : List Setting) where
   not_there (Exclude earlier name) real h sep = not_separator rest name h.0 sep
   not_there (TooOften name) real h sep = not_separator rest name h.0 sep
   not_there (NeedsNumber name) real h sep = not_separator rest name h.0 sep
+  not_there (NeedsWord name) real h sep = not_separator rest name h.0 sep
   not_there NoSeparator real (inl nothing) sep = let both : [] ≡ codes "--" = sym (ap first_word nothing) ∙ sep in absurd (cc both)
   not_there NoSeparator real (inr h) sep = not_separator rest h.0 h.1 sep
   not_there OutOfMemory real h sep = real refl
@@ -205,6 +212,7 @@ said name (Some earlier) often taken =
 said name None true taken = reason_of (TooOften name)
 said name None false Nothing = []
 said name None false Word = reason_of NoSeparator
+said name None false (ShortWord most) = reason_of (NeedsWord name)
 said name None false (Number least greatest) = reason_of (NeedsNumber name)
 
 -- what is said at the front of a text whose first word names this option or none
@@ -253,6 +261,8 @@ module _ (settings : List Setting) where
   fault_says (TooOften name) text real h = sym (said_free text name true (takes name) h.0 h.1 (many_times name h.2) refl)
   fault_says (NeedsNumber name) text real h =
       sym (said_free text name false (Number h.2 h.3) h.0 (no_clash settings name h.1.together) (few_times name h.1.few) h.4)
+  fault_says (NeedsWord name) text real h =
+      sym (said_free text name false (ShortWord h.2) h.0 (no_clash settings name h.1.together) (few_times name h.1.few) h.3)
   fault_says NoSeparator text real (inl nothing) = sym (ap said_here nothing ∙ ap (λ o. said_at settings o []) no_word)
   fault_says NoSeparator text real (inr h) =
       sym (said_free text h.0 false Word h.1 (no_clash settings h.0 h.2.together) (few_times h.0 h.2.few) h.3)

@@ -1,13 +1,13 @@
 -- Why a `find` is refused: the first fault from the left.
-use Rattle.std.specs.Prelude.{◌≡◌, ◌≢◌, ℕ, ◌≤◌, ◌<◌, IsFalse, List, [], ◌++◌, Option, Some, None, codes, ◌⊎◌, find, option_map}
+use Rattle.std.specs.Prelude.{◌≡◌, ◌≢◌, ℕ, ◌≤◌, ◌<◌, IsFalse, List, [], ◌++◌, length, Option, Some, None, codes, ◌⊎◌, find, option_map}
 use Rattle.std.specs.List.{All}
 use Rattle.request.specs.Names.{clashes, option_named, range_text, takes, text_of}
 use Rattle.request.specs.Settings.{Setting, SpellsSettings, IsAllowed, SpellsNumber, count_of, greatest_times}
 use Rattle.request.specs.Words.{after_word, first_word}
 use Rattle.request.specs.declared.fault.FindFault.{FindFault}
-use Rattle.request.specs.declared.fault.FindFault.TheVariants.{BadOption, Twice, TooOften, NeedsNumber, Exclude, NoSeparator, OutOfMemory}
+use Rattle.request.specs.declared.fault.FindFault.TheVariants.{BadOption, Twice, TooOften, NeedsNumber, NeedsWord, Exclude, NoSeparator, OutOfMemory}
 use Rattle.request.specs.declared.names.OptionName.{OptionName}
-use Rattle.request.specs.declared.names.Takes.TheVariants.{Word, Number}
+use Rattle.request.specs.declared.names.Takes.TheVariants.{Word, ShortWord, Number}
 
 -- how a fault reads
 abbrev pub reason_of : FindFault → List ℕ
@@ -15,6 +15,7 @@ reason_of (BadOption word) = codes "bad option " ++ word.now
 reason_of (Twice name) = codes "option " ++ text_of name ++ codes " twice"
 reason_of (TooOften name) = codes "option " ++ text_of name ++ codes " over 16 times"
 reason_of (NeedsNumber name) = codes "option " ++ text_of name ++ codes " needs a number from " ++ range_text name
+reason_of (NeedsWord name) = codes "option " ++ text_of name ++ codes " needs a word of 1 to 64 bytes"
 reason_of (Exclude earlier name) = text_of earlier ++ codes " and " ++ text_of name ++ codes " exclude each other"
 reason_of NoSeparator = codes "no -- before the pattern"
 reason_of OutOfMemory = codes "out of memory"
@@ -42,6 +43,9 @@ IsFaultAt settings text (TooOften name) = IsNamed text name × (first_clash name
 IsFaultAt settings text (NeedsNumber name) =
     IsNamed text name × IsFree name settings × (least greatest : ℕ) × (takes name ≡ Number least greatest)
     × ((n : ℕ) → SpellsNumber (first_word (after_word text)) n → least ≤ n → n ≤ greatest → ⊥)
+IsFaultAt settings text (NeedsWord name) =
+    IsNamed text name × IsFree name settings × (most : ℕ) × (takes name ≡ ShortWord most)
+    × (0 < length (first_word (after_word text)) → length (first_word (after_word text)) ≤ most → ⊥)
 IsFaultAt settings text NoSeparator = (text ≡ []) ⊎ ((name : OptionName) × IsNamed text name × IsFree name settings × (takes name ≡ Word) × (after_word text ≡ []))
 IsFaultAt settings text OutOfMemory = Unit {0}
 

@@ -29,6 +29,8 @@ pub record Options : Type 0 where
   pub limit : Option ℕ
   pub view : View
   pub zero : Bool
+  -- in which queue the search waits: no answer depends on it
+  pub lane : Option (List ℕ)
 
 -- whether one of the settings is of this option
 abbrev pub has_option : OptionName → List Setting → Bool
@@ -48,6 +50,11 @@ test_in _ _ = None
 abbrev pub limit_in : OptionName → Argument → Option ℕ
 limit_in option.Limit (argument.number n) = Some n
 limit_in _ _ = None
+
+-- the lane that an option gives, if it gives one
+abbrev pub lane_in : OptionName → Argument → Option (List ℕ)
+lane_in option.Lane (argument.text word) = Some word
+lane_in _ _ = None
 
 -- the view that an option gives, if it gives one
 abbrev pub view_in : OptionName → Argument → Option View
@@ -73,6 +80,7 @@ options_of settings = record {
   limit = slice_get (filter_map (λ setting. limit_in setting.name setting.argument) settings) 0;
   view = unwrap_or (slice_get (filter_map (λ setting. view_in setting.name setting.argument) settings) 0) view.Lines;
   zero = has_option option.Zero settings;
+  lane = slice_get (filter_map (λ setting. lane_in setting.name setting.argument) settings) 0;
 }
 
 -- The text is these settings in any order, the word `--`, and the pattern, which can have spaces.

@@ -4,9 +4,9 @@ use Rattle.std.specs.Prelude.{ℕ, Bool, true, false, not, ◌&&◌, ◌||◌, L
 use Rattle.std.specs.Str.{bytes_eq}
 use Rattle.request.specs.declared.names.OptionName.{OptionName}
 use Rattle.request.specs.declared.names.OptionName.TheVariants.{IgnoreCase, Literal, WholeWords, WholeLines, Invert, Named, NotNamed}
-use Rattle.request.specs.declared.names.OptionName.TheVariants.{IgnoreNameCase, Limit, Names, Counts, Header, Context, Column, Spans, Zero}
+use Rattle.request.specs.declared.names.OptionName.TheVariants.{IgnoreNameCase, Limit, Names, Counts, Header, Context, Column, Spans, Zero, Lane}
 use Rattle.request.specs.declared.names.Takes.{Takes}
-use Rattle.request.specs.declared.names.Takes.TheVariants.{Nothing, Word, Number}
+use Rattle.request.specs.declared.names.Takes.TheVariants.{Nothing, Word, ShortWord, Number}
 use Rattle.request.specs.declared.names.TheConstants.{ALL}
 
 -- the word of an option
@@ -27,15 +27,17 @@ text_of Context = codes "-C"
 text_of Column = codes "--column"
 text_of Spans = codes "--spans"
 text_of Zero = codes "-Z"
+text_of Lane = codes "--lane"
 
 -- the option of a word, if it is one's
 unfoldable pub option_named : List ℕ → Option OptionName
 option_named word = find (λ name. bytes_eq (text_of name) word) ALL
 
--- what follows the word of an option: nothing, a word, or a number from the least to the greatest
+-- what follows the word of an option: nothing, a word, one of at most so many bytes, or a number from the least to the greatest
 abbrev pub takes : OptionName → Takes
 takes Named = Word
 takes NotNamed = Word
+takes Lane = ShortWord 64
 takes Limit = Number 1 4294967295
 takes Context = Number 0 1000
 takes _ = Nothing

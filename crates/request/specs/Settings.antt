@@ -7,7 +7,7 @@ use Rattle.request.specs.Names.{clashes, is_same, option_named, takes}
 use Rattle.request.specs.Words.{after_word, first_word}
 use Rattle.request.specs.declared.names.OptionName.{OptionName}
 use Rattle.request.specs.declared.names.Takes.{Takes}
-use Rattle.request.specs.declared.names.Takes.TheVariants.{Nothing, Word, Number}
+use Rattle.request.specs.declared.names.Takes.TheVariants.{Nothing, Word, ShortWord, Number}
 
 -- what follows an option
 pub data Argument : Type 0 where
@@ -30,6 +30,8 @@ pub record SpellsNumber (digits : List ℕ) (value : ℕ) : Type 0 where
 abbrev pub SpellsArgument : Takes → List ℕ → List ℕ → Argument → Type 0
 SpellsArgument Nothing from rest argument = (rest ≡ from) × (argument ≡ nothing)
 SpellsArgument Word from rest argument = (from ≢ []) × (rest ≡ after_word from) × (argument ≡ text (first_word from))
+SpellsArgument (ShortWord most) from rest argument =
+    (0 < length (first_word from)) × (length (first_word from) ≤ most) × (rest ≡ after_word from) × (argument ≡ text (first_word from))
 SpellsArgument (Number least greatest) from rest argument =
     (n : ℕ) × SpellsNumber (first_word from) n × (least ≤ n) × (n ≤ greatest) × (rest ≡ after_word from) × (argument ≡ number n)
 

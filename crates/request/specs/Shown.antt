@@ -1,5 +1,5 @@
 -- The options of a find without their places in memory.
-use Rattle.std.specs.Prelude.{map}
+use Rattle.std.specs.Prelude.{map, option_map}
 use Rattle.request.specs.Find.{NameTest, Options}
 use Rattle.request.specs.declared.options.FindOptions.{FindOptions}
 use Rattle.request.specs.declared.options.NameTest as program
@@ -21,4 +21,5 @@ shown_options options = record {
   limit = options.limit;
   view = options.view;
   zero = options.zero;
+  lane = option_map (λ word. word.now) options.lane;
 }

@@ -17,6 +17,8 @@ pub enum FindFault<'t> {
     TooOften(OptionName),
     /// The option is not followed by a number within its range.
     NeedsNumber(OptionName),
+    /// The option is not followed by a word within its length.
+    NeedsWord(OptionName),
     /// The first option is there already, and the second cannot be there as well.
     Exclude(OptionName, OptionName),
     /// There is no `--` before the pattern.
@@ -49,6 +51,11 @@ impl FindFault<'_> {
             FindFault::Twice(name) => add_option(text, *name, b" twice"),
             FindFault::TooOften(name) => add_option(text, *name, b" over 16 times"),
             FindFault::NeedsNumber(name) => add_option(text, *name, needed(*name)),
+            FindFault::NeedsWord(name) => add_option(
+                text,
+                *name,
+                b" needs a word of 1 to 64 bytes",
+            ),
             FindFault::Exclude(earlier, name) => {
                 add(text, earlier.text().as_bytes(), b" and ")?;
                 add(text, name.text().as_bytes(), b" exclude each other")

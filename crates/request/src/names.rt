@@ -38,10 +38,12 @@ pub enum OptionName {
     Spans,
     /// `-Z`: a zero byte comes after each name.
     Zero,
+    /// `--lane WORD`: in which queue the search waits for a reader.
+    Lane,
 }
 
 /// All options.
-const ALL: [OptionName; 16] = [
+const ALL: [OptionName; 17] = [
     OptionName::IgnoreCase,
     OptionName::Literal,
     OptionName::WholeWords,
@@ -58,6 +60,7 @@ const ALL: [OptionName; 16] = [
     OptionName::Column,
     OptionName::Spans,
     OptionName::Zero,
+    OptionName::Lane,
 ];
 
 /// What follows the word of an option.
@@ -67,6 +70,8 @@ pub enum Takes {
     Nothing,
     /// A word.
     Word,
+    /// A word of one byte, up to so many.
+    ShortWord(u32),
     /// A number from the first to the second, both included.
     Number(u32, u32),
 }
@@ -102,17 +107,19 @@ impl OptionName {
             OptionName::Column => "--column",
             OptionName::Spans => "--spans",
             OptionName::Zero => "-Z",
+            OptionName::Lane => "--lane",
         }
     }
 
-    /// What follows the word of the option: a word after `-n` and `-N`, a number from 1 to 4,294,967,295 after `-m`, a
-    /// number from 0 to 1,000 after `-C`, and nothing after any other.
+    /// What follows the word of the option: a word after `-n` and `-N`, one of 1 to 64 bytes after `--lane`, a number from
+    /// 1 to 4,294,967,295 after `-m`, a number from 0 to 1,000 after `-C`, and nothing after any other.
     pub fn takes(self) -> Takes
         ensures { result ≡ takes self }
     {
         match self {
             OptionName::Named => Takes::Word,
             OptionName::NotNamed => Takes::Word,
+            OptionName::Lane => Takes::ShortWord(64),
             OptionName::Limit => Takes::Number(1, u32::MAX),
             OptionName::Context => Takes::Number(0, 1000),
             _ => Takes::Nothing,

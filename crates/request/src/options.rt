@@ -2,7 +2,7 @@
 
 ghost use Rattle.std.specs.Prelude.{◌≡◌, IfErr, IfOk, map, option_map, slice_get, unwrap_or};
 ghost use Rattle.std.specs.List.{filter_map};
-ghost use Rattle.request.specs.Find.{case_if, has_option, limit_in, options_of, test_in, view_in};
+ghost use Rattle.request.specs.Find.{case_if, has_option, lane_in, limit_in, options_of, test_in, view_in};
 ghost use Rattle.request.specs.Private.Kept.{shown_argument, shown_settings};
 ghost use Rattle.request.specs.Shown.{shown_options, shown_test};
 
@@ -64,6 +64,8 @@ pub struct FindOptions<'t> {
     pub view: View,
     /// Whether a zero byte comes after each name.
     pub zero: bool,
+    /// The queue in which the search waits for a reader, if one is named: 1 to 64 bytes. It changes no answer.
+    pub lane: Option<&'t [u8]>,
 }
 
 /// The options that these settings say.
@@ -88,6 +90,7 @@ pub fn options_of<'t>(
         limit: limit_of(settings),
         view: view_of(settings),
         zero: has_option(settings, OptionName::Zero),
+        lane: lane_of(settings),
     })
 }
 
@@ -155,6 +158,29 @@ fn limit_in(setting: &Setting<'_>) -> Option<u32>
 {
     match (setting.name, setting.argument) {
         (OptionName::Limit, Argument::Number(limit)) => Some(limit),
+        _ => None,
+    }
+}
+
+/// The lane, if a setting names one.
+fn lane_of<'t>(settings: &[Setting<'t>]) -> Option<&'t [u8]>
+    ensures { option_map (λ word. word.now) result
+        ≡ slice_get (filter_map (λ setting. lane_in setting.name setting.argument) (shown_settings settings.now)) 0 }
+{
+    for setting in settings {
+        if let Some(lane) = lane_in(setting) {
+            return Some(lane);
+        }
+    }
+    None
+}
+
+/// The lane in a setting.
+fn lane_in<'t>(setting: &Setting<'t>) -> Option<&'t [u8]>
+    ensures { option_map (λ word. word.now) result ≡ lane_in setting.now.name (shown_argument setting.now.argument) }
+{
+    match (setting.name, setting.argument) {
+        (OptionName::Lane, Argument::Text(lane)) => Some(lane),
         _ => None,
     }
 }

@@ -1,6 +1,6 @@
 //! The settings before the pattern, each an option and what follows it.
 
-ghost use Rattle.std.specs.Prelude.{◌≡◌, ◌≢◌, ◌≤◌, ◌<◌, ℕ, IfErr, IfOk, List, MatchOption, codes, length};
+ghost use Rattle.std.specs.Prelude.{◌≡◌, ◌≢◌, ◌≤◌, ◌<◌, ℕ, IfErr, IfOk, List, MatchBool, MatchOption, codes, length};
 ghost use Rattle.request.specs.Faults.{IsFaultAt, IsFree, IsNamed};
 ghost use Rattle.request.specs.Names.{takes};
 ghost use Rattle.request.specs.Private.Kept.{shown_argument, shown_setting, shown_settings};
@@ -48,7 +48,8 @@ pub struct CutSetting<'t> {
 ///
 /// An `Err` is the first fault of the setting: `NoSeparator` if the text is empty, or ends where `-n` or `-N` needs a
 /// word; `BadOption` if its first word names no option; `Twice`, `TooOften` or `Exclude` if the option cannot follow
-/// the earlier ones; or `NeedsNumber` if no number within its range follows it. It is never `OutOfMemory`.
+/// the earlier ones; or `NeedsNumber` if no number within its range follows it, and `NeedsWord` if no word within its
+/// length does. It is never `OutOfMemory`.
 pub fn take_setting<'t>(
     earlier: &[Setting<'t>],
     text: &'t [u8],
@@ -130,6 +131,16 @@ fn take_argument(name: OptionName, text: &[u8]) -> Result<Followed<'_>, FindFaul
                 rest: cut.after,
             })
         }
+        Takes::ShortWord(most) => {
+            let cut = cut_word(text);
+            if !is_short(cut.word, most) {
+                return Err(FindFault::NeedsWord(name));
+            }
+            Ok(Followed {
+                argument: Argument::Text(cut.word),
+                rest: cut.after,
+            })
+        }
         Takes::Number(least, greatest) => {
             let cut = cut_word(text);
             match number_in(cut.word, least, greatest) {
@@ -141,4 +152,12 @@ fn take_argument(name: OptionName, text: &[u8]) -> Result<Followed<'_>, FindFaul
             }
         }
     }
+}
+
+/// Whether a word has at least one byte, and at most so many.
+fn is_short(word: &[u8], most: u32) -> bool
+    ensures { MatchBool result ((0 < length word.now) × (length word.now ≤ most))
+        ((0 < length word.now) → (length word.now ≤ most) → ⊥) }
+{
+    !word.is_empty() && word.len() <= most as usize
 }

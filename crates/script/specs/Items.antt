@@ -15,6 +15,7 @@ pub data Item : Type 0 where
   put : (name body : List ℕ) → Item
   load : (name path : List ℕ) → Item
   remove : (name : List ℕ) → Item
+  remove_under : (prefix : List ℕ) → Item
   publish : Item
   search : (case : Case) (pattern : List ℕ) → Item
   search_in : (case : Case) (name_pattern pattern : List ℕ) → Item
@@ -98,9 +99,10 @@ item_of_keyword_and_others keyword others =
     else (if is_keyword keyword (codes "isearchin") then search_in_of Ignore (fields_of others).first (fields_of others).others
     else (if is_keyword keyword (codes "find") then find others
     else (if is_keyword keyword (codes "remove") then remove others
+    else (if is_keyword keyword (codes "removeunder") then remove_under others
     else (if is_keyword keyword (codes "load") then load_of (fields_of others).first (fields_of others).others
     else (if is_keyword keyword (codes "cancel") then cancel_of others
-    else bad_line)))))))
+    else bad_line))))))))
 
 -- the item of a line with this keyword, and with what follows the space after it
 abbrev pub item_of : List ℕ → Option (List ℕ) → Item

@@ -15,6 +15,10 @@ pub enum Item<'a> {
     Remove {
         name: &'a [u8],
     },
+    /// `removeunder PREFIX`.
+    RemoveUnder {
+        prefix: &'a [u8],
+    },
     /// `publish`.
     Publish,
     /// `search ERE`, or `isearch ERE`, which ignores case. A line with only `search` or `isearch` has the

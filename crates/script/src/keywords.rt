@@ -71,6 +71,8 @@ fn item_of_keyword_and_others<'a>(keyword: &[u8], others: &'a [u8]) -> Item<'a>
         Item::Find { request: others }
     } else if keyword == b"remove".as_slice() {
         Item::Remove { name: others }
+    } else if keyword == b"removeunder".as_slice() {
+        Item::RemoveUnder { prefix: others }
     } else if keyword == b"load".as_slice() {
         load(others)
     } else if keyword == b"cancel".as_slice() {

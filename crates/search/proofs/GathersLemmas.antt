@@ -20,6 +20,7 @@ use Rattle.search.specs.Private.Gathered.{all_or_one, AreGathered, AreRowsUpTo, 
 use Rattle.search.specs.Private.Rows.{AreRowsOf}
 use Rattle.prepare.specs.Request.{Request}
 use Rattle.views.specs.Found.{Hit}
+use Rattle.views.specs.declared.shown.FoundBy.{FoundBy}
 use Rattle.search.specs.Selects.{Selects, done, IsAsked}
 use Rattle.prepare.specs.Tests.{test_of}
 use Rattle.views.specs.Text.{text_of_row, text_of_rows}
@@ -80,6 +81,19 @@ formed-append shown rows others = go (shows_lines shown)
     go : (b : Bool) → (if b then [] else rows ++ others) ≡ (if b then [] else rows) ++ (if b then [] else others)
     go true = refl
     go false = refl
+
+-- the way by which lines are looked at says nothing of what is gathered
+pub gathers-by : {wanted : Wanted} {documents : List SharedDocument} {g : Gathered} {by : FoundBy} → Gathers wanted documents g
+    → Gathers wanted documents (record g { found_by = by })
+gathers-by is = record {
+  hits = is.hits;
+  found = is.found;
+  rows = is.rows;
+  is_gathered = is.is_gathered;
+  kept = is.kept;
+  text = is.text;
+  row_count = is.row_count;
+}
 
 module _ (wanted : Wanted) where
   abbrev pub limit : Option ℕ

@@ -1,5 +1,5 @@
 -- A state and a pattern have one answer, and a state and a request have one thing that is shown.
-use Rattle.std.proofs.Common.{◌≡◌, ℕ, ◌+◌, ◌<◌, ◌⊎◌, inl, inr, Bool, List, [], ◌∷◌, length, Contains, refl, sym, ◌∙◌, ap, subst, arith}
+use Rattle.std.proofs.Common.{◌≡◌, ℕ, ◌+◌, ◌<◌, ◌⊎◌, inl, inr, Bool, Option, List, [], ◌∷◌, length, Contains, refl, sym, ◌∙◌, ap, subst, arith}
 use Rattle.std.specs.Prelude.{is_some}
 use Rattle.std.specs.Cmp.{IsTotalOrder}
 use Rattle.std.specs.Cmp.Lexicographic.{nat_list_cmp_total}
@@ -21,7 +21,10 @@ use Rattle.prepare.specs.Pattern.{Pattern}
 use Rattle.prepare.specs.Request.{Request}
 use Rattle.views.specs.Found.{Answer, Hit}
 use Rattle.search.specs.Scan.{IsAnswerOf, hit_cmp}
+use Rattle.search.specs.Laws.{TimesShowNothing}
 use Rattle.search.specs.Shown.{IsShownOf}
+use Rattle.views.specs.declared.shown.FoundBy.{FoundBy}
+use Rattle.views.specs.declared.shown.Times.{Times}
 use Rattle.views.specs.Shown.{Shown}
 use Rattle.views.specs.Text.{text_of_rows}
 use Rattle.search.specs.Rows.{AreRows, IsColumnRow, IsSpansRow, RowsOf, at_most, is_over, shown_tree, total}
@@ -143,8 +146,8 @@ one_list_of_rows law request view.Header documents hits rows others one two = on
 
 -- ---- what is shown
 
-shown_with : Request → Answer → List Row → Shown
-shown_with request answer rows = record {
+shown_with : Request → Answer → List Row → FoundBy → Option Times → Shown
+shown_with request answer rows found_by times = record {
   view = request.view;
   version = answer.version;
   count = at_most request.limit (total request.view answer.hits);
@@ -153,39 +156,64 @@ shown_with request answer rows = record {
   text = text_of_rows request.zero rows;
   documents = answer.documents;
   candidates = answer.candidates;
+  found_by = found_by;
+  times = times;
 }
 
-fields : View → ℕ → ℕ → Bool → ℕ → List ℕ → ℕ → ℕ → Shown
-fields v version count more rows text documents candidates = record {
-  view = v;
-  version = version;
-  count = count;
-  more = more;
-  rows = rows;
-  text = text;
-  documents = documents;
-  candidates = candidates;
-}
+module _ (by : FoundBy) (times : Option Times) where
+  fields : View → ℕ → ℕ → Bool → ℕ → List ℕ → ℕ → ℕ → Shown
+  fields v version count more rows text documents candidates = record {
+    view = v;
+    version = version;
+    count = count;
+    more = more;
+    rows = rows;
+    text = text;
+    documents = documents;
+    candidates = candidates;
+    found_by = by;
+    times = times;
+  }
 
-shown_is : (state : State) (request : Request) (shown : Shown) (is : IsShownOf state request shown) → shown ≡ shown_with request is.answer is.rows
-unfolding shown_with fields
-shown_is state request shown is =
-    let made = shown_with request is.answer is.rows in
-    ap (λ x. fields x shown.version shown.count shown.more shown.rows shown.text shown.documents shown.candidates) is.view
-    ∙ ap (λ x. fields made.view x shown.count shown.more shown.rows shown.text shown.documents shown.candidates) is.version
-    ∙ ap (λ x. fields made.view made.version x shown.more shown.rows shown.text shown.documents shown.candidates) is.count
-    ∙ ap (λ x. fields made.view made.version made.count x shown.rows shown.text shown.documents shown.candidates) is.more
-    ∙ ap (λ x. fields made.view made.version made.count made.more x shown.text shown.documents shown.candidates) is.row_count
-    ∙ ap (λ x. fields made.view made.version made.count made.more made.rows x shown.documents shown.candidates) is.text
-    ∙ ap (λ x. fields made.view made.version made.count made.more made.rows made.text x shown.candidates) is.documents
-    ∙ ap (λ x. fields made.view made.version made.count made.more made.rows made.text made.documents x) is.candidates
+  -- what is shown, if it was made in this way
+  shown_is : (state : State) (request : Request) (shown : Shown) (is : IsShownOf state request shown)
+      → record shown { found_by = by; times = times } ≡ shown_with request is.answer is.rows by times
+  unfolding shown_with fields
+  shown_is state request shown is =
+      let made = shown_with request is.answer is.rows by times in
+      ap (λ x. fields x shown.version shown.count shown.more shown.rows shown.text shown.documents shown.candidates) is.view
+      ∙ ap (λ x. fields made.view x shown.count shown.more shown.rows shown.text shown.documents shown.candidates) is.version
+      ∙ ap (λ x. fields made.view made.version x shown.more shown.rows shown.text shown.documents shown.candidates) is.count
+      ∙ ap (λ x. fields made.view made.version made.count x shown.rows shown.text shown.documents shown.candidates) is.more
+      ∙ ap (λ x. fields made.view made.version made.count made.more x shown.text shown.documents shown.candidates) is.row_count
+      ∙ ap (λ x. fields made.view made.version made.count made.more made.rows x shown.documents shown.candidates) is.text
+      ∙ ap (λ x. fields made.view made.version made.count made.more made.rows made.text x shown.candidates) is.documents
+      ∙ ap (λ x. fields made.view made.version made.count made.more made.rows made.text made.documents x) is.candidates
 
 pub one_shown : OneList → (state : State) (request : Request) (shown other : Shown) → IsShownOf state request shown
-    → IsShownOf state request other → shown ≡ other
+    → IsShownOf state request other → shown ≡ record other { found_by = shown.found_by; times = shown.times }
 one_shown law state request shown other one two =
+    let by = shown.found_by in
+    let times = shown.times in
     let answer : one.answer ≡ two.answer = one_answer state request.pattern one.answer two.answer one.is_answer two.is_answer in
     let rows : one.rows ≡ two.rows =
     one_list_of_rows law request request.view state.documents two.answer.hits one.rows two.rows
     (subst (λ a. AreRows request request.view state.documents a.hits one.rows) answer one.are_rows) two.are_rows in
-    shown_is state request shown one ∙ ap (λ a. shown_with request a one.rows) answer ∙ ap (λ rs. shown_with request two.answer rs) rows
-    ∙ sym (shown_is state request other two)
+    shown_is by times state request shown one ∙ ap (λ a. shown_with request a one.rows by times) answer
+    ∙ ap (λ rs. shown_with request two.answer rs by times) rows ∙ sym (shown_is by times state request other two)
+
+pub times_show_nothing : TimesShowNothing
+times_show_nothing state request shown times is = record {
+  answer = is.answer;
+  is_answer = is.is_answer;
+  rows = is.rows;
+  are_rows = is.are_rows;
+  view = is.view;
+  version = is.version;
+  count = is.count;
+  more = is.more;
+  row_count = is.row_count;
+  text = is.text;
+  documents = is.documents;
+  candidates = is.candidates;
+}

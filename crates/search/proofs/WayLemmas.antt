@@ -1,7 +1,7 @@
 -- The ways of searching.
 use Rattle.std.proofs.Common.{◌≡◌, Option, Some, IfSome, subst}
 use Rattle.ere.specs.Tree.{Tree}
-use Rattle.engine.specs.Patterns.{IsFinderOf, IsCompiledFrom}
+use Rattle.engine.specs.Patterns.{IsLineFinderOf, IsCompiledForLines}
 use Rattle.matcher.specs.Steps.{IsQuick}
 use Rattle.simulation.specs.Simulations.{IsSimulationOf}
 use Rattle.engine.specs.declared.finding.Finder.{Finder}
@@ -11,11 +11,11 @@ use Rattle.search.specs.declared.way.Way.{Way}
 use Rattle.search.specs.declared.way.Way.TheVariants.{FromMatchToMatch, Matcher, Simulation}
 use Rattle.search.specs.Private.Ways.{Finds}
 
-pub finder_of : (tree : Tree) (way : Way) (finder : Finder) → way ≡ FromMatchToMatch finder → Finds tree way → IsFinderOf tree finder
+pub finder_of : (tree : Tree) (way : Way) (finder : Finder) → way ≡ FromMatchToMatch finder → Finds tree way → IsLineFinderOf tree finder
 unfolding Finds
 finder_of tree way finder is finds = subst (Finds tree) is finds
 
-pub finds_by : (tree : Tree) (finder : Finder) → IsFinderOf tree finder → Finds tree (FromMatchToMatch finder)
+pub finds_by : (tree : Tree) (finder : Finder) → IsLineFinderOf tree finder → Finds tree (FromMatchToMatch finder)
 unfolding Finds
 finds_by tree finder stands = stands
 
@@ -33,6 +33,5 @@ pub finds_by_simulation : (tree : Tree) (simulation : SimulationValue) → IsSim
 unfolding Finds
 finds_by_simulation tree simulation is slow = (is, slow)
 
-pub compiled_from : (tree : Tree) (o : Option Compiled) (compiled : Compiled) → o ≡ Some compiled → IfSome o (IsCompiledFrom tree)
-    → IsCompiledFrom tree compiled
-compiled_from tree o compiled is from = subst (λ x. IfSome x (IsCompiledFrom tree)) is from
+pub compiled_from : (P : Compiled → Type 0) (o : Option Compiled) (compiled : Compiled) → o ≡ Some compiled → IfSome o P → P compiled
+compiled_from P o compiled is from = subst (λ x. IfSome x P) is from

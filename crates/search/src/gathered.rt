@@ -13,15 +13,15 @@ ghost use Rattle.views.specs.View.{shows_names};
 
 use crate::matching::{few_documents, scan_document};
 use crate::rows::append_rows;
-use crate::seeker::{Seeker, compile_word, compiled_of_shown, shown_seeker};
+use crate::seeker::{Seeker, compile_shown, shown_seeker};
 use crate::unanswered::Unanswered;
 use crate::watch::{Watch, ask};
-use crate::way::{Way, compile, way_by};
+use crate::way::{Way, compile_for_lines, found_by, way_by};
 use index::SharedDocument;
 use prepare::Prepared;
 use request::View;
 use std::alloc::Global;
-use views::{Lines, Places};
+use views::{FoundBy, Lines, Places};
 
 /// What is to be gathered.
 #[derive(Clone, Copy)]
@@ -47,6 +47,8 @@ pub(crate) struct Gathered {
     pub(crate) count: usize,
     /// Whether there are more of them.
     pub(crate) more: bool,
+    /// By which way lines were looked at, after the first few.
+    pub(crate) found_by: FoundBy,
 }
 
 /// What is shown of these documents, which have different names. Where lines near hits are shown, the first stretch has
@@ -71,6 +73,7 @@ pub(crate) fn gather<W: Watch>(
         rows: 0,
         count: 0,
         more: false,
+        found_by: FoundBy::Matcher,
     };
     let few = gather_few(alloc, wanted, documents, &mut gathered, watch)?;
     gather_compiled(alloc, wanted, &documents[few..], &mut gathered, watch)?;
@@ -126,11 +129,11 @@ fn gather_compiled<W: Watch>(
     if gathered.more {
         return Ok(());
     }
-    let compiled = compile(alloc, &wanted.prepared.line.tree);
+    let compiled = compile_for_lines(alloc, &wanted.prepared.line.tree);
     let mut way = way_by(alloc, &wanted.prepared.line.tree, &compiled)?;
-    let word = compile_word(alloc, wanted);
-    let shown = compiled_of_shown(wanted.prepared, &compiled, &word);
-    let mut seeker = shown_seeker(alloc, wanted, shown)?;
+    gathered.found_by = found_by(&way);
+    let shown = compile_shown(alloc, wanted);
+    let mut seeker = shown_seeker(alloc, wanted, &shown)?;
     gather_by(wanted, &mut way, &mut seeker, documents, gathered, watch)
 }
 

@@ -7,7 +7,7 @@ ghost use Rattle.prepare.specs.Pattern.{Pattern};
 ghost use Rattle.views.specs.Found.{Hit, Answer};
 ghost use Rattle.search.specs.Scan.{IsAnswerOf};
 ghost use Rattle.search.specs.Commands.{IsHitOfPut};
-ghost use Rattle.search.specs.Laws.{AnswersAreOne, ShownAreOne};
+ghost use Rattle.search.specs.Laws.{AnswersAreOne, ShownAreOne, TimesShowNothing};
 
 use spans::one_list_of_spans;
 
@@ -25,9 +25,14 @@ pub fn one_answer()
     ensures { AnswersAreOne }
 {}
 
-/// In a state at most one thing is what a request shows, whatever its view.
+/// In a state at most one thing is what a request shows, whatever its view, but for how it was made.
 pub fn one_shown()
     ensures { ShownAreOne }
 {
     one_list_of_spans();
 }
+
+/// What is shown stays what the request asks for if it gets its times.
+pub fn times_show_nothing()
+    ensures { TimesShowNothing }
+{}

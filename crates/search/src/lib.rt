@@ -20,7 +20,7 @@ mod watch;
 mod way;
 
 pub use first::{First, FirstPart, take_first};
-pub use laws::{answers_follow_commands, one_answer, one_shown};
+pub use laws::{answers_follow_commands, one_answer, one_shown, times_show_nothing};
 pub use scan::find;
 pub use taken::{Taken, take};
 pub use unanswered::Unanswered;

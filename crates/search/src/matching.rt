@@ -3,7 +3,7 @@
 ghost use Rattle.std.specs.Prelude.{◌≡◌, ◌≢◌, ◌<◌, ◌≤◌, ◌+◌, ℕ, List, [], ◌∷◌, length, slice_index, IfOk, IfErr, OnOk, All, MatchBool};
 ghost use Rattle.ere.specs.Tree.{Tree, form};
 ghost use Rattle.index.specs.Text.{greatest_body};
-ghost use Rattle.engine.specs.Patterns.{IsFinderOf};
+ghost use Rattle.engine.specs.Patterns.{IsFinderOf, IsLineFinderOf};
 ghost use Rattle.search.specs.CalledOff.{IsCalledOffOnlyIf};
 ghost use Rattle.prepare.specs.Pattern.{with_match};
 ghost use Rattle.prepare.specs.Tests.{test_of};
@@ -17,7 +17,7 @@ ghost use Rattle.search.specs.Private.Ways.{Finds, AreFew};
 use crate::piece::piece_end;
 use crate::unanswered::Unanswered;
 use crate::watch::{Watch, ask};
-use crate::way::{MOST_BY_ENGINE, Way, passes};
+use crate::way::{Way, passes};
 use engine::{Finder, lines_before};
 use index::{Body, SharedDocument};
 use matcher::is_quick;
@@ -200,11 +200,13 @@ fn scan_piece<W: Watch>(
         places.old.items places.new.items) }
     ensures called_off { IfErr result (IsCalledOffOnlyIf (W.has_said_no watch.new)) }
 {
-    // A longer text is one line.
-    if !test.inverted && text.len() <= MOST_BY_ENGINE {
+    if !test.inverted {
         if let Way::FromMatchToMatch(finder) = way {
-            sweep_lines(finder, document, offset, from, text, most, places)?;
-            return Ok(());
+            // A longer text has a long line.
+            if text.len() <= finder.longest() {
+                sweep_lines(finder, document, offset, from, text, most, places)?;
+                return Ok(());
+            }
         }
     }
     scan_lines(test, way, document, offset, from, text, most, places, watch)
@@ -224,7 +226,7 @@ fn sweep_lines(
     requires inside { offset + length text.now ≤ greatest_body }
     requires room { from + length text.now ≤ 1 + greatest_body }
     ensures same { (tree : Tree) → IsFinderOf tree finder.old → IsFinderOf tree finder.new }
-    ensures places { OnOk result ((tree : Tree) (body : List ℕ) → IsFinderOf tree finder.old
+    ensures places { OnOk result ((tree : Tree) (body : List ℕ) → IsLineFinderOf tree finder.old
         → AddsLinesUpTo most (with_match tree) document body offset from text.now places.old.items places.new.items) }
 {
     let mut rest = text;

@@ -11,7 +11,7 @@ ghost use Rattle.search.specs.Private.Ways.{Finds};
 
 use crate::unanswered::Unanswered;
 use crate::watch::{Watch, ask};
-use crate::way::{Way, compile, passes, way_by};
+use crate::way::{Way, compile_for_lines, passes, way_by};
 use index::SharedDocument;
 use matcher::is_quick;
 use prepare::{Prepared, Test};
@@ -56,7 +56,7 @@ fn with_names<W: Watch>(
         let mut way = Way::Matcher;
         return with_names_by(alloc, test, &mut way, documents, watch);
     }
-    let compiled = compile(alloc, &test.tree);
+    let compiled = compile_for_lines(alloc, &test.tree);
     let mut way = way_by(alloc, &test.tree, &compiled)?;
     with_names_by(alloc, test, &mut way, documents, watch)
 }

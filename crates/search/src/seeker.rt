@@ -16,7 +16,7 @@ ghost use Rattle.search.specs.Rows.{shown_tree};
 use crate::gathered::Wanted;
 use crate::unanswered::Unanswered;
 use crate::watch::{Watch, ask};
-use crate::way::{MOST_BY_ENGINE, compile};
+use crate::way::compile;
 use engine::{Compiled, Finder};
 use ere::{Ere, is_word_byte};
 use prepare::Prepared;
@@ -123,11 +123,11 @@ impl<'p> Seeker<'p> {
         if whole_words {
             return halved_start(&mut self.simulation, line, true, watch);
         }
-        if line.len() > MOST_BY_ENGINE {
-            return halved_start(&mut self.simulation, line, false, watch);
-        }
         match &mut self.finder {
             Some(finder) => {
+                if line.len() > finder.longest() {
+                    return halved_start(&mut self.simulation, line, false, watch);
+                }
                 // Whether an empty match is at the front is known without a pass.
                 if let Some(0) = self.simulation.first_empty(line, false) {
                     return Ok(Some(0));
@@ -156,11 +156,13 @@ impl<'p> Seeker<'p> {
         ensures tried { IfOk result (λ tried. (tree : Tree) → Seeks tree self.old → IsTried line.now tree whole_words from tried) }
         ensures called_off { IfErr result (IsCalledOffOnlyIf (W.has_said_no watch.new)) }
     {
-        if line.len() > MOST_BY_ENGINE {
-            return Ok(Tried::From(from));
-        }
         match &mut self.finder {
-            Some(finder) => try_each(finder, &mut self.simulation, line, from, whole_words, watch),
+            Some(finder) => {
+                if line.len() > finder.longest() {
+                    return Ok(Tried::From(from));
+                }
+                try_each(finder, &mut self.simulation, line, from, whole_words, watch)
+            }
             None => Ok(Tried::From(from)),
         }
     }
@@ -168,29 +170,15 @@ impl<'p> Seeker<'p> {
 
 // ---- the seeker of what is shown
 
-/// The pattern of the tree without the edges of words, compiled, if only whole words count and their matches are shown. `None`
-/// also means that its tables would be too large, or that memory ran out.
-pub(crate) fn compile_word(alloc: Global, wanted: &Wanted<'_>) -> Option<Compiled>
+/// The pattern of the tree whose matches are shown, compiled, if any are. `None` also means that its tables would be too large, or
+/// that memory ran out.
+pub(crate) fn compile_shown(alloc: Global, wanted: &Wanted<'_>) -> Option<Compiled>
     ensures { IfSome result (IsCompiledFrom (shown_tree (request_of wanted.now.prepared.now))) }
 {
-    if wanted.prepared.words && shows_matches(wanted.view) {
+    if shows_matches(wanted.view) {
         return compile(alloc, wanted.prepared.shown_tree());
     }
     None
-}
-
-/// The compiled pattern of the tree whose matches are shown: of the tree without the edges of words, if only whole words count,
-/// and otherwise of the test of lines.
-pub(crate) fn compiled_of_shown<'p>(
-    prepared: &Prepared,
-    line: &'p Option<Compiled>,
-    word: &'p Option<Compiled>,
-) -> &'p Option<Compiled>
-    requires line { IfSome line.now (IsCompiledFrom (form prepared.now.line.tree)) }
-    requires word { IfSome word.now (IsCompiledFrom (shown_tree (request_of prepared.now))) }
-    ensures { IfSome result.now (IsCompiledFrom (shown_tree (request_of prepared.now))) }
-{
-    if prepared.words { word } else { line }
 }
 
 /// A seeker of the matches that are shown, or `None` if none are. It uses the compiled pattern of their tree, if there is one.

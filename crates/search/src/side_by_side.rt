@@ -19,7 +19,7 @@ use index::SharedDocument;
 use request::View;
 use std::alloc::Global;
 use std::thread::{Threads, join};
-use views::{Passage, Places};
+use views::{FoundBy, Passage, Places};
 
 /// A part has at least so many bytes of bodies. To start a thread and to wait for it takes as long as to look through some
 /// twentieth of that.
@@ -39,6 +39,8 @@ pub(crate) struct Joined {
     pub(crate) count: usize,
     /// Whether there are more of them.
     pub(crate) more: bool,
+    /// By which way lines were looked at: the matcher only if no part went another way.
+    pub(crate) found_by: FoundBy,
 }
 
 /// What is shown of these documents, gathered in up to `most` parts of about equal bytes, each in a thread of its own
@@ -148,7 +150,7 @@ pub(crate) fn gather_part<W: Watch>(
     ensures called_off { IfErr result (IsCalledOffOnlyIf (W.has_said_no watch.new)) }
 {
     let gathered = gather(alloc, wanted, documents, watch)?;
-    let (count, more) = (gathered.count, gathered.more);
+    let (count, more, found_by) = (gathered.count, gathered.more, gathered.found_by);
     let (from, rows) = without_gap(wanted.view, gathered.rows);
     let part = part_of(wanted.prepared.zero, gathered, from, ahead, watch)?;
     let mut parts = Vec::new(alloc);
@@ -158,6 +160,7 @@ pub(crate) fn gather_part<W: Watch>(
         rows,
         count,
         more,
+        found_by,
     })
 }
 
@@ -279,7 +282,16 @@ fn join_parts(
     all.rows = sum_of(all.rows, back.rows)?;
     all.count = sum_of(all.count, back.count)?;
     all.more = back.more;
+    all.found_by = joined_way(all.found_by, back.found_by);
     Ok(all)
+}
+
+/// The way of two parts: the matcher only if neither went another way.
+fn joined_way(front: FoundBy, back: FoundBy) -> FoundBy {
+    match front {
+        FoundBy::Matcher => back,
+        _ => front,
+    }
 }
 
 /// Adds the gap between the stretches of lines that are there and those of the so many rows that follow, if there are any of both.

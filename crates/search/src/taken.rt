@@ -215,6 +215,8 @@ pub(crate) fn with_counts(
         parts: joined.parts,
         documents,
         candidates,
+        found_by: joined.found_by,
+        times: None,
     };
     Ok(Shown {
         contents: Box::new(alloc, contents)?,

@@ -1,14 +1,14 @@
 //! The ways in which lines that contain a match are found.
 
-ghost use Rattle.std.specs.Prelude.{◌≢◌, ◌<◌, ◌↔◌, ℕ, IfOk, IfErr, IfSome, IsTrue, length, slice_index};
+ghost use Rattle.std.specs.Prelude.{◌≡◌, ◌≢◌, ◌<◌, ◌↔◌, ℕ, IfOk, IfErr, IfSome, IsTrue, length, slice_index};
 ghost use Rattle.ere.specs.Tree.{form};
 ghost use Rattle.ere.specs.Language.{ContainsMatch};
 ghost use Rattle.ere.specs.Limits.{IsWithinLimits};
-ghost use Rattle.engine.specs.Patterns.{IsCompiledFrom};
+ghost use Rattle.engine.specs.Patterns.{IsCompiledFrom, IsCompiledForLines};
 ghost use Rattle.prepare.specs.Pattern.{Passes};
 ghost use Rattle.prepare.specs.Tests.{test_of};
 ghost use Rattle.search.specs.CalledOff.{IsCalledOffOnlyIf};
-ghost use Rattle.search.specs.Private.Ways.{Finds};
+ghost use Rattle.search.specs.Private.Ways.{Finds, found_by};
 
 use crate::unanswered::Unanswered;
 use crate::watch::Watch;
@@ -19,15 +19,13 @@ use matcher::{is_quick, matches};
 use prepare::Test;
 use simulation::Simulation;
 use std::alloc::{AllocError, Global};
-
-/// The longest line that the engine takes, in bytes. A pass of it is not given up before its end, so longer lines go by a
-/// simulation, which asks each 64 KiB.
-pub(crate) const MOST_BY_ENGINE: usize = 1 << 23;
+use views::FoundBy;
 
 /// How the lines that contain a match of a tree are found. All ways find the same lines.
 #[derive(Drop)]
 pub enum Way<'p> {
-    /// By the engine, over a whole body at once.
+    /// By the engine, over a whole text at once. It cannot be stopped there, so a line that is too long for that goes by a
+    /// simulation.
     FromMatchToMatch(Finder<'p>),
     /// By the matcher, line by line, for a tree for which a line costs it few steps. A line that is too long for it goes by
     /// a simulation.
@@ -36,7 +34,28 @@ pub enum Way<'p> {
     Simulation(Simulation),
 }
 
-/// The pattern of the tree, compiled. `None` means that its tables would be too large, or that memory ran out.
+/// Which way it is.
+pub(crate) fn found_by(way: &Way<'_>) -> FoundBy
+    ensures { result ≡ found_by way.now }
+{
+    match way {
+        Way::FromMatchToMatch(_) => FoundBy::Engine,
+        Way::Matcher => FoundBy::Matcher,
+        Way::Simulation(_) => FoundBy::Simulation,
+    }
+}
+
+/// The pattern for the lines of the tree, compiled. `None` means that its tables would be too large, or that memory ran out.
+pub fn compile_for_lines(alloc: Global, tree: &Ere) -> Option<Compiled>
+    ensures { IfSome result (IsCompiledForLines (form tree.now)) }
+{
+    match Compiled::for_lines(alloc, tree) {
+        Ok(compiled) => compiled,
+        Err(_) => None,
+    }
+}
+
+/// The pattern of the tree, compiled. `None` means the same.
 pub fn compile(alloc: Global, tree: &Ere) -> Option<Compiled>
     ensures { IfSome result (IsCompiledFrom (form tree.now)) }
 {
@@ -54,7 +73,7 @@ pub fn way_by<'p>(
     compiled: &'p Option<Compiled>,
 ) -> Result<Way<'p>, AllocError>
     requires limits { IsWithinLimits (form tree.now) }
-    requires compiled { IfSome compiled.now (IsCompiledFrom (form tree.now)) }
+    requires compiled { IfSome compiled.now (IsCompiledForLines (form tree.now)) }
     ensures { IfOk result (Finds (form tree.now)) }
 {
     if let Some(compiled) = compiled {
@@ -108,11 +127,13 @@ fn has_match<W: Watch>(
     ensures found { IfOk result (λ found. IsTrue found ↔ ContainsMatch (form tree.now) line.now) }
     ensures called_off { IfErr result (IsCalledOffOnlyIf (W.has_said_no watch.new)) }
 {
-    if line.len() > MOST_BY_ENGINE {
-        return has_match_in_long(alloc, tree, line, watch);
-    }
     match way {
-        Way::FromMatchToMatch(finder) => Ok(finder.matches(line)),
+        Way::FromMatchToMatch(finder) => {
+            if line.len() > finder.longest() {
+                return has_match_in_long(alloc, tree, line, watch);
+            }
+            Ok(finder.matches(line))
+        }
         Way::Matcher => matches_by_length(alloc, tree, line, watch),
         Way::Simulation(simulation) => Ok(simulation.matches(line, watch)?),
     }

@@ -1,11 +1,12 @@
 -- Items that are carried out have their entries.
 use Rattle.std.proofs.Common.{◌≡◌, ℕ, inl, List, [], ◌∷◌, ◌++◌, Some, None, Ok, Err, refl, sym, ap, ◌∙◌}
 use Rattle.std.proofs.lemmas.List.{append-nil}
-use Rattle.std.specs.Prelude.{false, Result, IfOk, IfErr, length}
+use Rattle.std.specs.Prelude.{Bool, false, Result, IfOk, IfErr, length}
+use Rattle.index.specs.Documents.{is_taken, has_under}
 use Rattle.index.specs.State.{State, state_of}
 use Rattle.index.specs.declared.command.Command.{Command}
 use Rattle.index.specs.declared.lengths.Lengths.{Lengths}
-use Rattle.index.specs.declared.command.Command.TheVariants.{Put, Remove}
+use Rattle.index.specs.declared.command.Command.TheVariants.{Put, Remove, RemoveUnder}
 use Rattle.script.specs.Items.{Item}
 use Rattle.script.specs.Items as item
 use Rattle.published.specs.Desk.{DeskState}
@@ -17,7 +18,7 @@ use Rattle.transcript.specs.declared.entry.Reason.TheVariants as reason
 use Rattle.steps.specs.LegalRows.{IsNamed, bad_name, no_memory, named, IsRoomFor, full, accepted, IsPut, IsCommandEntry}
 use Rattle.steps.specs.LegalRows.{IsRemove, no_such_file, is_there}
 use Rattle.steps.specs.LegalRows as legal
-use Rattle.steps.specs.Rows.{accepted_by, version_in, failures_in, searches_of, is_sync}
+use Rattle.steps.specs.Rows.{accepted_by, command_of, version_in, failures_in, searches_of, is_sync}
 use Rattle.service.specs.Private.Entries.{entry_of, published_entry_of, desk_after, IsLoaded}
 use Rattle.steps.specs.StepRows.{searches_in}
 use Rattle.service.specs.Private.Items.{IsEntered, all, nothing}
@@ -56,10 +57,10 @@ no_failure_named longest name line entry Else none (bad_name fault other is_faul
 no_failure_named longest name line entry Else none (no_memory is_name is) = no_failure_at is refl
 no_failure_named longest name line entry Else none (named is_name else) = none else
 
-no_failure_in_remove : (most : ℕ) (state : State) (name : List ℕ) (line : ℕ) (entry : Entry) → IsRemove most state name line entry
+no_failure_in_remove : (most : ℕ) (state : State) (found : Bool) (line : ℕ) (entry : Entry) → IsRemove most state found line entry
     → failures_in (Some entry) ≡ 0
-no_failure_in_remove most state name line entry (no_such_file none is) = no_failure_at is refl
-no_failure_in_remove most state name line entry (is_there there room) = no_failure_in_room most state line entry room
+no_failure_in_remove most state found line entry (no_such_file none is) = no_failure_at is refl
+no_failure_in_remove most state found line entry (is_there there room) = no_failure_in_room most state line entry room
 
 module _ (Holds : List ℕ → List ℕ → Type 0) (lengths : Lengths) (desk : DeskState) (told : Known) (failed line : ℕ) (done : Result ℕ Reason) (entry : Entry)
     (is : entry ≡ entry_of line done) where
@@ -99,26 +100,46 @@ module _ (Holds : List ℕ → List ℕ → Type 0) (lengths : Lengths) (desk : 
     counted = load.counted line;
   })
 
+  -- a remove of one document or of several
+  module _ (shown : Item) (command : Command) (name : List ℕ) (found : Bool) (none : searches_of shown ≡ 0) (no_sync : is_sync shown ≡ false)
+      (commands : command_of shown None ≡ command ∷ []) where
+    pub carried_removal : (desk' : DeskState)
+        → ((entry' : Entry) → IsNamed lengths.name name line entry' (IsRemove desk.limit (state_of desk.accepted) found line entry')
+        → IsCommandEntry Holds lengths desk.limit (state_of desk.accepted) None line shown entry')
+        → IsNamed lengths.name name line (entry_of line done) (IsRemove desk.limit (state_of desk.accepted) found line (entry_of line done))
+        → desk' ≡ desk_after done (command ∷ []) desk → IsEntered Holds lengths desk told failed (item.numbered line shown) entry desk' told failed
+    carried_removal desk' legal_as legal_is left = rw (is, left) (record {
+      loaded = None;
+      legal = legal_as (entry_of line done) legal_is;
+      no_search = none;
+      no_sync = no_sync;
+      no_search_entry = no_search_entry line done;
+      opening = (same_opening done (command ∷ []) desk).0;
+      limit = (same_opening done (command ∷ []) desk).1;
+      accepted = accepted_after line done (command ∷ []) desk ∙ ap (λ cs. desk.accepted ++ accepted_by (Some (entry_of line done)) cs) (sym commands);
+      tells = nothing (no_version line done) refl;
+      published = λ h. same_published done (command ∷ []) desk ∙ h;
+      counted =
+          counted_same (entry_of line done) failed
+          (no_failure_named lengths.name name line _ _ (no_failure_in_remove desk.limit (state_of desk.accepted) found line (entry_of line done))
+          legal_is);
+    })
+
   pub carried_remove : (name : List ℕ) (desk' : DeskState)
-      → IsNamed lengths.name name line (entry_of line done) (IsRemove desk.limit (state_of desk.accepted) name line (entry_of line done))
+      → IsNamed lengths.name name line (entry_of line done)
+      (IsRemove desk.limit (state_of desk.accepted) (is_taken name (state_of desk.accepted).documents) line (entry_of line done))
       → desk' ≡ desk_after done (Remove name ∷ []) desk
       → IsEntered Holds lengths desk told failed (item.numbered line (item.remove name)) entry desk' told failed
-  carried_remove name desk' legal_is left = rw (is, left) (record {
-    loaded = None;
-    legal = legal_is;
-    no_search = refl;
-    no_sync = refl;
-    no_search_entry = no_search_entry line done;
-    opening = (same_opening done (Remove name ∷ []) desk).0;
-    limit = (same_opening done (Remove name ∷ []) desk).1;
-    accepted = accepted_after line done (Remove name ∷ []) desk;
-    tells = nothing (no_version line done) refl;
-    published = λ h. same_published done (Remove name ∷ []) desk ∙ h;
-    counted =
-        counted_same (entry_of line done) failed
-        (no_failure_named lengths.name name line _ _ (no_failure_in_remove desk.limit (state_of desk.accepted) name line (entry_of line done))
-        legal_is);
-  })
+  carried_remove name desk' legal_is left =
+      carried_removal (item.remove name) (Remove name) name _ refl refl refl desk' (λ entry' h. h) legal_is left
+
+  pub carried_remove_under : (prefix : List ℕ) (desk' : DeskState)
+      → IsNamed lengths.name prefix line (entry_of line done)
+      (IsRemove desk.limit (state_of desk.accepted) (has_under prefix (state_of desk.accepted).documents) line (entry_of line done))
+      → desk' ≡ desk_after done (RemoveUnder prefix ∷ []) desk
+      → IsEntered Holds lengths desk told failed (item.numbered line (item.remove_under prefix)) entry desk' told failed
+  carried_remove_under prefix desk' legal_is left =
+      carried_removal (item.remove_under prefix) (RemoveUnder prefix) prefix _ refl refl refl desk' (λ entry' h. h) legal_is left
 
 -- publishes, and lines that are not valid items
 module _ (Holds : List ℕ → List ℕ → Type 0) (lengths : Lengths) (desk : DeskState) (told : Known) (failed line : ℕ) (entry : Entry) where

@@ -1,12 +1,17 @@
 -- The entries of single items are legal.
-use Rattle.std.proofs.Common.{◌≡◌, ◌≢◌, ℕ, zero, suc, ◌<◌, ◌≤◌, ◌⊎◌, inl, inr, Bool, true, false, List, Some, refl, sym, ap, subst, ◌∙◌, arith, MatchBool}
+use Rattle.std.proofs.Common.{◌≡◌, ◌≢◌, ℕ, zero, suc, ◌<◌, ◌≤◌, ◌⊎◌, inl, inr, Bool, true, false, List, [], ◌∷◌, Some, refl, sym, ap, subst, ◌∙◌, arith, MatchBool}
 use Rattle.std.proofs.lemmas.Bool.{cases_lt}
 use Rattle.ere.specs.declared.error.EreError.{EreError}
 use Rattle.ere.specs.declared.error.EreErrorKind.{EreErrorKind}
 use Rattle.ere.specs.declared.error.EreErrorKind.TheVariants as kind
 use Rattle.ere.specs.declared.case.Case.{Case}
 use Rattle.ere.specs.declared.case.Case.TheVariants.{Exact}
-use Rattle.index.specs.State.{State}
+use Rattle.index.specs.State.{State, state_of}
+use Rattle.index.specs.declared.command.Command.{Command}
+use Rattle.published.specs.Desk.{DeskState, HasRoom, IsRemoveFault, with_command}
+use Rattle.published.specs.declared.error.RemoveError.{RemoveError}
+use Rattle.published.specs.declared.error.RemoveError.TheVariants as remove_error
+use Rattle.std.proofs.lemmas.List.{length-append}
 use Rattle.index.specs.declared.error.NameError.{NameError}
 use Rattle.index.specs.declared.lengths.Lengths.{Lengths}
 use Rattle.index.specs.declared.error.NameError.TheVariants as name
@@ -16,11 +21,11 @@ use Rattle.steps.specs.Rows.{failures_in}
 use Rattle.index.specs.Text.{most_bytes, IsNameOf, IsNameFault, IsBodyFault}
 use Rattle.prepare.specs.Pattern.{HasTree, IsTreeFault}
 use Rattle.transcript.specs.declared.entry.Entry.{Entry}
-use Rattle.transcript.specs.declared.entry.Entry.TheVariants.{Refused}
+use Rattle.transcript.specs.declared.entry.Entry.TheVariants.{Accepted, Refused}
 use Rattle.transcript.specs.declared.entry.Reason.{Reason}
 use Rattle.transcript.specs.declared.entry.Reason.TheVariants as reason
 use Rattle.transcript.specs.declared.entry.SearchReason.TheVariants as search_reason
-use Rattle.steps.specs.LegalRows.{IsNamed, bad_name, no_memory, named, bad_body, with_body, full, accepted, IsPut, IsRemove, HasLoaded, loaded_body}
+use Rattle.steps.specs.LegalRows.{IsNamed, bad_name, no_memory, named, bad_body, with_body, full, accepted, IsPut, IsRemove, no_such_file, is_there, HasLoaded, loaded_body}
 use Rattle.request.specs.Faults.{IsFirstFault}
 use Rattle.request.specs.Find.{IsFindOf, Options}
 use Rattle.request.specs.declared.fault.FindFault.{FindFault}
@@ -31,7 +36,7 @@ use Rattle.transcript.specs.declared.entry.SearchReason.{SearchReason}
 use Rattle.steps.specs.Asked.{IsFaultOfSearch, IsFaultOfSearchIn, IsFaultOfFind}
 use Rattle.steps.specs.Asked as asked
 use Rattle.service.specs.Private.Entries as entries
-use Rattle.service.specs.Private.Entries.{IsReasonOfWords, reason_of_find, reason_of_find_of, reason_of_name, reason_of_fault, reason_of_fault_of, HasBodyOrNoMemory, IsRemoveOrNoMemory}
+use Rattle.service.specs.Private.Entries.{IsReasonOfWords, reason_of_find, reason_of_find_of, reason_of_name, reason_of_remove, reason_of_fault, reason_of_fault_of, HasBodyOrNoMemory, IsRemoveOrNoMemory}
 use Rattle.service.specs.Service.{IsCounted}
 
 pub named_fault : (longest : ℕ) (error : NameError) (bytes : List ℕ) (line : ℕ) (entry : Entry) (Else : Type 0) → IsNameFault longest error bytes
@@ -47,10 +52,23 @@ pub named_body : (lengths : Lengths) (most : ℕ) (state : State) (bytes bytes' 
 named_body lengths most state bytes bytes' line entry is (inl body_is) = named is body_is
 named_body lengths most state bytes bytes' line entry is (inr ran_out) = no_memory is ran_out.2
 
-pub named_removed : (longest most : ℕ) (state : State) (bytes : List ℕ) (line : ℕ) (entry : Entry) → IsNameOf longest bytes
-    → IsRemoveOrNoMemory most state bytes line entry → IsNamed longest bytes line entry (IsRemove most state bytes line entry)
-named_removed longest most state bytes line entry is (inl removed) = named is removed
-named_removed longest most state bytes line entry is (inr ran_out) = no_memory is ran_out.1
+pub named_removed : (longest most : ℕ) (state : State) (bytes : List ℕ) (found : Bool) (line : ℕ) (entry : Entry) → IsNameOf longest bytes
+    → IsRemoveOrNoMemory most state found line entry → IsNamed longest bytes line entry (IsRemove most state found line entry)
+named_removed longest most state bytes found line entry is (inl removed) = named is removed
+named_removed longest most state bytes found line entry is (inr ran_out) = no_memory is ran_out.1
+
+-- a remove that the desk refuses, and one that it accepts
+pub refused_remove : (desk : DeskState) (found : Bool) (error : RemoveError) (why : Reason) (line : ℕ) → IsRemoveFault error found desk
+    → why ≡ reason_of_remove error → IsRemoveOrNoMemory desk.limit (state_of desk.accepted) found line (Refused line why)
+refused_remove desk found remove_error.NoSuchFile why line fault is = inl (no_such_file fault (ap (Refused line) is))
+refused_remove desk found remove_error.Full why line fault is = inl (is_there fault.0 (full fault.1 (ap (Refused line) is)))
+refused_remove desk found remove_error.OutOfMemory why line fault is = inr (fault.1, ap (Refused line) is)
+
+pub accepted_remove : (desk desk' : DeskState) (command : Command) (found : Bool) (count line : ℕ) → found ≡ true → desk' ≡ with_command command desk
+    → HasRoom desk → count ≡ length desk'.accepted → IsRemoveOrNoMemory desk.limit (state_of desk.accepted) found line (Accepted line count)
+accepted_remove desk desk' command found count line there left room is =
+    inl (is_there there (accepted room
+    (ap (Accepted line) (is ∙ (ap (λ d. length d.accepted) left ∙ length-append desk.accepted (command ∷ []))))))
 
 pub named_loaded : (Holds : List ℕ → List ℕ → Type 0) (lengths : Lengths) (most : ℕ) (state : State) (bytes path bytes' : List ℕ) (line : ℕ) (entry : Entry)
     → IsNameOf lengths.name bytes → Holds path bytes' → HasBodyOrNoMemory lengths most state bytes' line entry

@@ -1,4 +1,5 @@
 pub mod ItemLemmas
 pub mod CarryLemmas
 pub mod ServiceLemmas
+pub mod TurnsLemmas
 pub mod CollectedLemmas

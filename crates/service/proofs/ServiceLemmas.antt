@@ -1,8 +1,8 @@
 -- Steps of a service.
 use Rattle.std.proofs.Common.{◌≡◌, ℕ, ◌+◌, ◌<◌, ◌≤◌, ◌⊎◌, inl, inr, List, [], ◌∷◌, ◌++◌, length, take, drop, Option, Some, Result, Ok, Err, true, refl, sym, ap, ◌∙◌, subst, arith}
-use Rattle.std.proofs.Common.{append_assoc, length-append, get_or, set}
-use Rattle.std.proofs.lemmas.List.{append-nil, length-replicate, length-set, length-take-le, length-drop, get_or_default}
-use Rattle.std.proofs.lemmas.List.Elements.{All-append, All-take, All-drop, All-set, Contains-append_left, Contains-append_right}
+use Rattle.std.proofs.Common.{append_assoc, length-append, get_or}
+use Rattle.std.proofs.lemmas.List.{append-nil, length-replicate, length-take-le, length-drop}
+use Rattle.std.proofs.lemmas.List.Elements.{All-append, All-take, All-drop, Contains-append_left, Contains-append_right}
 use Rattle.std.proofs.lemmas.Option.{slice_get_within, get_or_from_slice_get, slice_get-get_or}
 use Rattle.std.proofs.Math.Seq.{take-append_seam}
 use Rattle.std.specs.Prelude.{All, Bool, Contains, IfOk, MatchBool, false, is_ok, replicate, slice_get}
@@ -32,16 +32,16 @@ use Rattle.transcript.specs.declared.entry.Entry.{Entry}
 use Rattle.transcript.specs.declared.entry.Entry.TheVariants.{Published, Found, SearchRefused}
 use Rattle.transcript.specs.declared.entry.SearchReason.{SearchReason}
 use Rattle.transcript.specs.declared.entry.SearchReason.TheVariants as reason
-use Rattle.steps.specs.declared.last.Last.{Last}
 use Rattle.steps.specs.Rows.{accepted_by, command_of, version_in, last_or, searches_of, is_sync}
 use Rattle.steps.specs.LegalRows.{status_entry}
 use Rattle.steps.specs.Asked.{Asks, IsFaultOf}
-use Rattle.steps.specs.Steps.{OpenSearch, MayTake, last, last_of, asked}
+use Rattle.steps.specs.Steps.{Given, OpenSearch, MayTake, given, asked}
 use Rattle.steps.specs.Asked as asking
 use Rattle.steps.specs.Steps as steps
 use Rattle.service.specs.declared.reply.Reply.{Reply}
 use Rattle.service.specs.declared.reply.Reply.TheVariants as taken_as
-use Rattle.service.specs.Service.{ServiceState, run_of, Fits, Steps, Takes, Gives, answered, not_answered, too_slow, CanStand, versions_in, written_by, failures_by, IsCounted, IsKind, HasNumber}
+use Rattle.service.specs.Service.{ServiceState, run_of, Fits, Steps, Takes, Gives, SetsAside, answered, not_answered, too_slow, CanStand, versions_in, without, written_by, failures_by, IsCounted, IsKind, HasNumber}
+use Rattle.service.specs.Turns.{GivesTurn, HaveTurns, StillHave, TurnsState}
 use Rattle.service.specs.Private.Items.{IsEntered, IsLeft, Tells, all, nothing}
 use Rattle.service.specs.Opening.{limits_of}
 use Rattle.service.specs.Private.Closing.{IsService, service_of, with_kept, CanClose, IsAsked, asked_for, refused, IsGivenUp}
@@ -65,12 +65,12 @@ last_is_one default (x ∷ xs) = by (last_is_one x xs)
 
 module _ (Holds : List ℕ → List ℕ → Type 0) (lengths : Lengths) (desk : DeskState) (told : Known) (failed : ℕ) (item : Numbered) (entry : Entry)
     (desk' : DeskState) (told' : Known) (failed' : ℕ) (entered : IsEntered Holds lengths desk told failed item entry desk' told' failed')
-    (timed : Bool) (kept : List ℕ) (searches : ℕ) (awaited : List OpenSearch) (lasts : List Last) where
+    (timed : Bool) (kept : List ℕ) (searches : ℕ) (awaited : List OpenSearch) (turns : TurnsState) where
   abbrev old : ServiceState
-  old = service_of desk lengths timed told kept searches awaited lasts
+  old = service_of desk lengths timed told kept searches awaited turns
 
   abbrev new : ServiceState
-  new = service_of desk' lengths timed told' kept searches awaited lasts
+  new = service_of desk' lengths timed told' kept searches awaited turns
 
   told_by : Tells desk told entry told' → IsPrefix told.commands desk.accepted
       → IsPrefix told'.commands desk'.accepted × (length told.commands ≤ length told'.commands)
@@ -95,9 +95,7 @@ module _ (Holds : List ℕ → List ℕ → Type 0) (lengths : Lengths) (desk : 
       record {
         begins = now.0;
         least = λ k d lt. omega (arith, is.least k d lt, now.1);
-        versions = λ k d lt. omega (arith, is.versions k d lt, now.1);
-        turns = is.turns;
-        reader_zero = is.reader_zero;
+        few = is.few;
       }
 
   pub entered_opening : (book : Book) → desk.opening ≡ book → told.opening ≡ book → told'.opening ≡ book
@@ -120,11 +118,12 @@ module _ (Holds : List ℕ → List ℕ → Type 0) (lengths : Lengths) (desk : 
   pub entered_takes : (kept' : List ℕ)
       → ((version : ℕ) → Contains kept' version → Contains kept version ⊎ Contains (version_in (Some entry)) version)
       → Takes Holds old item (entry ∷ []) (with_kept kept' new)
-  entered_takes kept' sub published readers fits may = record {
+  entered_takes kept' sub published answers readers fits may = record {
     step = steps.carried_out item entered.loaded entry may entered.legal refl refl after;
     fits = record {
       latest = ap (last_or 0) one ∙ latest_by entered.tells published fits.latest;
       kept = λ version inside. subst (λ l. (version ≡ 0) ⊎ Contains l version) (sym one) (by version (sub version inside));
+      turns = fits.turns;
     };
     limits = ap (λ n. limits_of n lengths timed) entered.limit;
   }
@@ -141,33 +140,35 @@ module _ (Holds : List ℕ → List ℕ → Type 0) (lengths : Lengths) (desk : 
           older (inr inside) = inr (Contains-append_left published (version_in (Some entry)) version inside)
       by version (inr is) = inr (Contains-append_right published (version_in (Some entry)) version is)
 
-      after : run_of (with_kept kept' new) (published ++ versions_in (entry ∷ [])) ≡ steps.with_entry item.item entered.loaded entry (run_of old published)
+      after : run_of (with_kept kept' new) (published ++ versions_in (entry ∷ [])) answers ≡ steps.with_entry item.item entered.loaded entry (run_of old published answers)
       after = rw (entered.accepted, one) refl
 
 -- nothing is published: the versions are as before
-pub fits_still : (was after : ServiceState) (published : List ℕ) → after.told ≡ was.told → after.kept ≡ was.kept → Fits was published → Fits after (published ++ [])
-fits_still was after published told kept fits = record {
+pub fits_still : (readers : ℕ) (was after : ServiceState) (published : List ℕ) (answers answers' : List Given) → after.told ≡ was.told → after.kept ≡ was.kept
+    → HaveTurns readers answers' after.turns → Fits readers was published answers → Fits readers after (published ++ []) answers'
+fits_still readers was after published answers answers' told kept have fits = record {
   latest = ap (last_or 0) (append-nil published) ∙ fits.latest ∙ sym (ap length told);
   kept =
       λ version inside.
       subst (λ l. (version ≡ 0) ⊎ Contains l version) (sym (append-nil published)) (fits.kept version (subst (λ l. Contains l version) kept inside));
+  turns = have;
 }
 
 -- a search is open, or refused
 pub asked_takes : (Holds : List ℕ → List ℕ → Type 0) (old : ServiceState) (item : Numbered) (result : Reply) (new : ServiceState)
     → IsAsked item.item old result new → Takes Holds old item (written_by result) new
-asked_takes Holds old item result new (asked_for request asks is after) published readers fits may = rw (is, after) (record {
+asked_takes Holds old item result new (asked_for request asks is after) published answers readers fits may = rw (is, after) (record {
   step =
       steps.asked_for item request may asks refl refl
       (rw (append-nil published)
-      (ap (λ n. record (run_of old published) { searches = old.searches + 1; awaited = old.awaited ++ record { number = old.searches + 1; item = item.item; least = n } ∷ [] })
+      (ap (λ n. record (run_of old published answers) { searches = old.searches + 1; awaited = old.awaited ++ record { number = old.searches + 1; item = item.item; least = n } ∷ [] })
       (sym fits.latest)));
-  fits = fits_still old _ published refl refl fits;
+  fits = fits_still readers old _ published answers answers refl refl fits.turns fits;
   limits = refl;
 })
-asked_takes Holds old item result new (refused why fault is) published readers fits may = rw (is.entry, is.left) (record {
+asked_takes Holds old item result new (refused why fault is) published answers readers fits may = rw (is.entry, is.left) (record {
   step = steps.refused item why may fault refl refl (rw (append-nil published) refl);
-  fits = fits_still old _ published refl refl fits;
+  fits = fits_still readers old _ published answers answers refl refl fits.turns fits;
   limits = refl;
 })
 
@@ -200,35 +201,35 @@ no_number searches item (taken_as.Cancelled entry) none kind = tt
 no_number searches item taken_as.Nothing none kind = tt
 
 pub sync_takes : (Holds : List ℕ → List ℕ → Type 0) (old : ServiceState) (item : Numbered) → is_sync item.item ≡ true → Takes Holds old item [] old
-sync_takes Holds old item is published readers fits may = record {
+sync_takes Holds old item is published answers readers fits may = record {
   step = steps.sync item is (nothing_open may) refl refl (rw (append-nil published) refl);
-  fits = fits_still old old published refl refl fits;
+  fits = fits_still readers old old published answers answers refl refl fits.turns fits;
   limits = refl;
 }
   where
-    nothing_open : MayTake readers (run_of old published) item.item → old.awaited ≡ []
+    nothing_open : MayTake readers (run_of old published answers) item.item → old.awaited ≡ []
     nothing_open (steps.settled none) = none
     nothing_open (steps.beside some no_sync) = let opposite = sym is ∙ no_sync in cc
 
 -- a cancel closes an open search, or does nothing, or is refused
 pub cancel_takes : (Holds : List ℕ → List ℕ → Type 0) (old : ServiceState) (taken : Numbered) (number : ℕ) (result : Reply) (new : ServiceState)
     → taken.item ≡ item.cancel number → IsCancelled taken.line number old result new → Takes Holds old taken (written_by result) new
-cancel_takes Holds old taken number result new asks (given_up place entry found same is) published readers fits may =
+cancel_takes Holds old taken number result new asks (given_up place entry found same is) published answers readers fits may =
     rw (is, found.refused, found.left) (record {
       step =
           steps.cancelled taken place found.search may (asks ∙ ap item.cancel (sym same)) found.is_open refl refl
           (rw (append-nil published) refl);
-      fits = fits_still old _ published refl refl fits;
+      fits = fits_still readers old _ published answers answers refl refl (found.still readers answers fits.turns) fits;
       limits = refl;
     })
-cancel_takes Holds old taken number result new asks (too_late was gone is same) published readers fits may = rw (is, same) (record {
+cancel_takes Holds old taken number result new asks (too_late was gone is same) published answers readers fits may = rw (is, same) (record {
   step = steps.too_late taken number may asks was gone refl refl (rw (append-nil published) refl);
-  fits = fits_still old old published refl refl fits;
+  fits = fits_still readers old old published answers answers refl refl fits.turns fits;
   limits = refl;
 })
-cancel_takes Holds old taken number result new asks (no_such_search was_not is same) published readers fits may = rw (is, same) (record {
+cancel_takes Holds old taken number result new asks (no_such_search was_not is same) published answers readers fits may = rw (is, same) (record {
   step = steps.no_such_search taken number may asks was_not refl refl (rw (append-nil published) refl);
-  fits = fits_still old old published refl refl fits;
+  fits = fits_still readers old old published answers answers refl refl fits.turns fits;
   limits = refl;
 })
 
@@ -236,58 +237,40 @@ cancel_takes Holds old taken number result new asks (no_such_search was_not is s
 pub status_takes : (Holds : List ℕ → List ℕ → Type 0) (old : ServiceState) (taken : Numbered) (entry : Entry) → taken.item ≡ item.status
     → entry ≡ status_entry taken.line (length old.told) old.accepted old.limits.commands (length old.awaited)
     → Takes Holds old taken (entry ∷ []) old
-status_takes Holds old taken entry asks is published readers fits may = rw is (record {
+status_takes Holds old taken entry asks is published answers readers fits may = rw is (record {
   step =
       steps.reported taken may asks refl
       (ap (λ v. status_entry taken.line v old.accepted old.limits.commands (length old.awaited) ∷ []) (sym fits.latest))
       (rw (append-nil published) refl);
-  fits = fits_still old old published refl refl fits;
+  fits = fits_still readers old old published answers answers refl refl fits.turns fits;
   limits = refl;
 })
 
--- an open search is closed: new is old without it, and with these last answers
+-- an open search is closed
 module _ (old : ServiceState) (place : ℕ) (search : OpenSearch) (is_open : slice_get old.awaited place ≡ Some search) where
-  abbrev without : List Last → ServiceState
-  without lasts = record old { awaited = take place old.awaited ++ drop (place + 1) old.awaited; lasts = lasts }
-
   within : place < length old.awaited
   within = slice_get_within old.awaited place search is_open
 
-  one_less : length (take place old.awaited ++ drop (place + 1) old.awaited) + 1 ≡ length old.awaited
-  one_less = omega (arith, within, length-append (take place old.awaited) (drop (place + 1) old.awaited), length-take-le place old.awaited (omega (arith, within)), length-drop (place + 1) old.awaited)
-
-  still_least : IsService old → All (λ s. s.least ≤ length old.told) (take place old.awaited ++ drop (place + 1) old.awaited)
-  still_least is =
-      All-append (λ s. s.least ≤ length old.told) (take place old.awaited) (drop (place + 1) old.awaited)
-      (All-take (λ s. s.least ≤ length old.told) place old.awaited is.least) (All-drop (λ s. s.least ≤ length old.told) (place + 1) old.awaited is.least)
-
-  pub refused_is_service : IsService old → IsService (without old.lasts)
-  refused_is_service is = record {
+  pub closed_is_service : (turns : TurnsState) → IsService old → IsService (without place turns old)
+  closed_is_service turns is = record {
     begins = is.begins;
-    least = still_least is;
-    versions = is.versions;
-    turns = λ k d lt. omega (arith, is.turns k d lt, one_less);
-    reader_zero = is.reader_zero;
+    least =
+        All-append (λ s. s.least ≤ length old.told) (take place old.awaited) (drop (place + 1) old.awaited)
+        (All-take (λ s. s.least ≤ length old.told) place old.awaited is.least) (All-drop (λ s. s.least ≤ length old.told) (place + 1) old.awaited is.least);
+    few =
+        omega (
+          arith,
+          is.few,
+          within,
+          length-append (take place old.awaited) (drop (place + 1) old.awaited),
+          length-take-le place old.awaited (omega (arith, within)),
+          length-drop (place + 1) old.awaited,
+        );
   }
 
-  module _ (reader turn : ℕ) (answer : Shown) (can : CanStand old search reader answer) (next : turn ≡ (last_of old.lasts reader).turn + 1) where
-    abbrev now : List Last
-    now = set old.lasts reader (last turn answer.version)
-
-    pub answered_is_service : IsService old → IsService (without now)
-    answered_is_service is = record {
-      begins = is.begins;
-      least = still_least is;
-      versions = All-set (λ l. l.version ≤ length old.told) old.lasts reader (last turn answer.version) can.seen is.versions;
-      turns =
-          All-set (λ l. l.turn + length (take place old.awaited ++ drop (place + 1) old.awaited) ≤ old.searches) old.lasts reader (last turn answer.version)
-          (omega (arith, is.turns reader (last 0 0) can.one_of_them, one_less, next))
-          (λ k d lt. omega (arith, is.turns k d lt, one_less));
-      reader_zero = omega (arith, is.reader_zero, length-set old.lasts reader (last turn answer.version));
-    }
-
 -- An open search that gets its entry is a step of the run.
-module _ (Holds : List ℕ → List ℕ → Type 0) (old : ServiceState) (published : List ℕ) (readers : ℕ) (fits : Fits old published) where
+module _ (Holds : List ℕ → List ℕ → Type 0) (old : ServiceState) (published : List ℕ) (answers : List Given) (readers : ℕ)
+    (fits : Fits readers old published answers) where
   last_published : (version : ℕ) → version ≡ length old.told → (version ≡ 0) ⊎ Contains published version
   last_published version latest = one (last_is_one 0 published)
     where
@@ -299,40 +282,59 @@ module _ (Holds : List ℕ → List ℕ → Type 0) (old : ServiceState) (publis
   was_published version (inl latest) = last_published version latest
   was_published version (inr inside) = fits.kept version inside
 
-  pub gives_step : (entry : Entry) (new : ServiceState) → Gives old entry new → Steps Holds readers old published [] (entry ∷ []) new published
-  gives_step entry new (answered place search reader turn answer is_open can next is after) = rw (is, after) (record {
-    step =
-        steps.answered place search reader turn answer is_open
-        (record {
-          request = can.request;
-          asks = can.asks;
-          exact = can.exact;
-          published = was_published answer.version can.published;
-          not_older = can.not_older;
-          one_of_them = can.one_of_them;
-          later = omega (arith, next);
-          no_fall = can.no_fall;
-        }) refl refl refl;
-    fits = record { latest = fits.latest; kept = fits.kept };
-    limits = refl;
-  })
-  gives_step entry new (not_answered place search is_open is after) = rw (is, after) (record {
-    step = steps.not_answered place search is_open refl refl refl;
-    fits = record { latest = fits.latest; kept = fits.kept };
-    limits = refl;
-  })
-  gives_step entry new (too_slow place search timed is_open is after) = rw (is, after) (record {
-    step = steps.too_slow place search timed is_open refl refl refl;
-    fits = record { latest = fits.latest; kept = fits.kept };
-    limits = refl;
-  })
+  pub gives_step : (entry : Entry) (new : ServiceState) → Gives old entry new
+      → (answers' : List Given) × Steps Holds readers old published answers [] (entry ∷ []) new published answers'
+  gives_step entry new (answered place search reader turn answer turns is_open can gives is after) =
+      let x = given reader turn answer.version in
+      let turned = gives readers answers fits.turns in (
+        answers ++ x ∷ [],
+        rw (is, after) (record {
+          step =
+              steps.answered place search reader turn answer is_open
+              (record {
+                request = can.request;
+                asks = can.asks;
+                exact = can.exact;
+                published = was_published answer.version can.published;
+                not_older = can.not_older;
+                one_of_them = turned.0;
+                in_turn = turned.1;
+              }) refl refl refl;
+          fits = record { latest = fits.latest; kept = fits.kept; turns = turned.2 };
+          limits = refl;
+        }),
+      )
+  gives_step entry new (not_answered place search turns is_open still is after) = (
+    answers,
+    rw (is, after) (record {
+      step = steps.not_answered place search is_open refl refl refl;
+      fits = record { latest = fits.latest; kept = fits.kept; turns = still readers answers fits.turns };
+      limits = refl;
+    }),
+  )
+  gives_step entry new (too_slow place search turns timed is_open still is after) = (
+    answers,
+    rw (is, after) (record {
+      step = steps.too_slow place search timed is_open refl refl refl;
+      fits = record { latest = fits.latest; kept = fits.kept; turns = still readers answers fits.turns };
+      limits = refl;
+    }),
+  )
+
+-- Between two steps turns may be set aside.
+pub aside_fits : (readers : ℕ) (old new : ServiceState) (published : List ℕ) (answers : List Given) → SetsAside old new
+    → Fits readers old published answers → Fits readers new published answers
+aside_fits readers was after published answers sets fits = record {
+  latest = fits.latest ∙ sym (ap (λ s. length s.told) sets.left);
+  kept = λ version inside. fits.kept version (subst (λ s. Contains s.kept version) sets.left inside);
+  turns = sets.still readers answers fits.turns;
+}
 
 -- what is checked of a reader's answer, and that it is right, make it one that can stand
-pub can_stand : (service : ServiceState) (search : OpenSearch) (reader : ℕ) (answer : Shown) (seen : List Command) (item : Item) (request : Request)
+pub can_stand : (service : ServiceState) (search : OpenSearch) (answer : Shown) (seen : List Command) (item : Item) (request : Request)
     → IsService service → item ≡ search.item → Asks item request → IsShownOf (state_of seen) request answer
-    → IsPrefix seen service.told → Contains service.kept answer.version → search.least ≤ answer.version → reader < length service.lasts
-    → (last_of service.lasts reader).version ≤ answer.version → CanStand service search reader answer
-can_stand service search reader answer seen item request is same asks right begins kept least within no_fall =
+    → IsPrefix seen service.told → Contains service.kept answer.version → search.least ≤ answer.version → CanStand service search answer
+can_stand service search answer seen item request is same asks right begins kept least =
     let whole : seen ++ (begins.0 ++ is.begins.0) ≡ service.accepted =
     sym (append_assoc seen begins.0 is.begins.0) ∙ ap (λ l. l ++ is.begins.0) begins.1 ∙ is.begins.1 in
     let cut : take answer.version service.accepted ≡ seen =
@@ -344,14 +346,12 @@ can_stand service search reader answer seen item request is same asks right begi
       published = inr kept;
       seen = omega (arith, (right.version ∙ right.is_answer.version), prefix_length seen service.told begins);
       not_older = least;
-      one_of_them = within;
-      no_fall = no_fall;
     }
 
 -- so does an answer from what was published last
 pub last_can_stand : (service : ServiceState) (search : OpenSearch) (place : ℕ) (answer : Shown) (item : Item) (prepared : Prepared)
     → IsService service → slice_get service.awaited place ≡ Some search → item ≡ search.item → Asks item (request_of prepared)
-    → IsShownOf (state_of service.told) (request_of prepared) answer → CanClose service place 0 answer
+    → IsShownOf (state_of service.told) (request_of prepared) answer → CanClose service place answer
 last_can_stand service search place answer item prepared is is_open same asks right =
     let cut : take answer.version service.accepted ≡ service.told =
     ap (λ v. take v service.accepted) (right.version ∙ right.is_answer.version) ∙ (ap (take (length service.told)) (sym is.begins.1) ∙ take-append_seam service.told is.begins.0) in
@@ -366,8 +366,6 @@ last_can_stand service search place answer item prepared is is_open same asks ri
         published = inl (right.version ∙ right.is_answer.version);
         seen = omega (arith, (right.version ∙ right.is_answer.version));
         not_older = omega (arith, (right.version ∙ right.is_answer.version), ap (λ s. s.least) at, is.least place search (slice_get_within service.awaited place search is_open));
-        one_of_them = is.reader_zero;
-        no_fall = omega (arith, (right.version ∙ right.is_answer.version), is.versions 0 (last 0 0) is.reader_zero);
       };
     }
 
@@ -379,6 +377,7 @@ memory_is_fault (item.find text) one = asking.no_memory refl
 memory_is_fault (item.put name body) one = absurd (omega (arith, one))
 memory_is_fault (item.load name path) one = absurd (omega (arith, one))
 memory_is_fault (item.remove name) one = absurd (omega (arith, one))
+memory_is_fault (item.remove_under prefix) one = absurd (omega (arith, one))
 memory_is_fault item.publish one = absurd (omega (arith, one))
 memory_is_fault item.sync one = absurd (omega (arith, one))
 memory_is_fault (item.cancel number) one = absurd (omega (arith, one))
@@ -400,67 +399,66 @@ if_true true f m = f m
 if_true false f m = m
 
 -- an answer of a reader can close the search at a place
-pub can_close : (service : ServiceState) (place reader version : ℕ) (search : OpenSearch) (l : Last) (answer : Shown) (seen : List Command) (asked_item : Item)
+pub can_close : (service : ServiceState) (place version : ℕ) (search : OpenSearch) (answer : Shown) (seen : List Command) (asked_item : Item)
     (request : Request) → IsService service → place < length service.awaited → search ≡ get_or service.awaited place search → asked_item ≡ search.item
     → Asks asked_item request → IsShownOf (state_of seen) request answer → IsPrefix seen service.told
-    → version ≡ answer.version → Contains service.kept version → search.least ≤ version → reader < length service.lasts
-    → l ≡ get_or service.lasts reader l → l.version ≤ version → CanClose service place reader answer
-can_close service place reader version search l answer seen asked_item request is within here same asks right begins is_version kept least one_of_them last_is no_fall =
-    let its : l ≡ last_of service.lasts reader = last_is ∙ get_or_default service.lasts reader l (last 0 0) one_of_them in
-    record {
-      search = search;
-      is_open = slice_get-get_or service.awaited place search within ∙ ap Some (sym here);
-      stands =
-          can_stand service search reader answer seen asked_item request is same asks right begins
-          (subst (λ v. Contains service.kept v) is_version kept) (omega (arith, least, is_version)) one_of_them
-          (omega (arith, ap (λ x. x.version) its, no_fall, is_version));
-    }
+    → version ≡ answer.version → Contains service.kept version → search.least ≤ version → CanClose service place answer
+can_close service place version search answer seen asked_item request is within here same asks right begins is_version kept least = record {
+  search = search;
+  is_open = slice_get-get_or service.awaited place search within ∙ ap Some (sym here);
+  stands =
+      can_stand service search answer seen asked_item request is same asks right begins (subst (λ v. Contains service.kept v) is_version kept)
+      (omega (arith, least, is_version));
+}
 
--- a search is closed with an answer
-module _ (inside : ServiceState) (place reader : ℕ) (answer : Shown) (closes : CanClose inside place reader answer) (number version : ℕ)
-    (found : OpenSearch) (l : Last) (here : found ≡ get_or inside.awaited place found) (is_number : number ≡ found.number)
-    (last_is : l ≡ get_or inside.lasts reader l) (is_version : version ≡ answer.version) (awaited' : List OpenSearch)
-    (left : awaited' ≡ take place inside.awaited ++ drop (place + 1) inside.awaited) where
-  abbrev after_answer : ServiceState
-  after_answer = record inside { awaited = awaited'; lasts = set inside.lasts reader (last (l.turn + 1) version) }
-
-  same_search : found ≡ closes.search
-  same_search = here ∙ get_or_from_slice_get inside.awaited place closes.search found closes.is_open
-
-  its_turn : l.turn + 1 ≡ (last_of inside.lasts reader).turn + 1
-  its_turn = ap (λ x. x.turn + 1) (last_is ∙ get_or_default inside.lasts reader l (last 0 0) closes.stands.one_of_them)
-
-  pub gives_answer : Gives inside (Found number reader (l.turn + 1) answer) after_answer
-  gives_answer =
-      answered place closes.search reader (l.turn + 1) answer closes.is_open closes.stands its_turn
-      (ap (λ n. Found n reader (l.turn + 1) answer) (is_number ∙ ap (λ s. s.number) same_search))
-      (rw (left, is_version) refl)
-
-  pub answer_is_service : IsService inside → IsService after_answer
-  answer_is_service is =
-      rw (left, is_version)
-      (answered_is_service inside place closes.search closes.is_open reader (l.turn + 1) answer closes.stands its_turn is)
-
--- a search is closed without one
+-- a search is closed
 module _ (inside : ServiceState) (place number : ℕ) (within : place < length inside.awaited) (found : OpenSearch)
     (here : found ≡ get_or inside.awaited place found) (is_number : number ≡ found.number) (awaited' : List OpenSearch)
-    (left : awaited' ≡ take place inside.awaited ++ drop (place + 1) inside.awaited) where
-  abbrev after_refusal : ServiceState
-  after_refusal = record inside { awaited = awaited' }
+    (left : awaited' ≡ take place inside.awaited ++ drop (place + 1) inside.awaited) (turns : TurnsState) where
+  abbrev after : ServiceState
+  after = record inside { awaited = awaited'; turns = turns }
 
   is_open : slice_get inside.awaited place ≡ Some found
   is_open = slice_get-get_or inside.awaited place found within ∙ ap Some (sym here)
 
-  pub is_refused : (why : SearchReason) → IsGivenUp place why inside (SearchRefused number why) after_refusal
-  is_refused why = record {
+  pub is_refused : (why : SearchReason) → StillHave inside.turns turns → IsGivenUp place why inside (SearchRefused number why) after
+  is_refused why still = record {
     search = found;
     is_open = is_open;
     refused = ap (λ n. SearchRefused n why) is_number;
+    still = still;
     left = rw left refl;
   }
 
-  pub refusal_is_service : IsService inside → IsService after_refusal
-  refusal_is_service is = rw left (refused_is_service inside place found is_open is)
+  pub gives_answer : (reader turn : ℕ) (answer : Shown) → CanClose inside place answer → GivesTurn inside.turns (given reader turn answer.version) turns
+      → Gives inside (Found number reader turn answer) after
+  gives_answer reader turn answer closes gives =
+      let same : found ≡ closes.search = here ∙ get_or_from_slice_get inside.awaited place closes.search found closes.is_open in
+      answered place closes.search reader turn answer turns closes.is_open closes.stands gives
+      (ap (λ n. Found n reader turn answer) (is_number ∙ ap (λ s. s.number) same)) (rw left refl)
+
+  pub after_is_service : IsService inside → IsService after
+  after_is_service is = rw left (closed_is_service inside place found is_open turns is)
+
+-- a search that is closed after turns were set aside
+pub gives_after : (old mid : ServiceState) (entry : Entry) (new : ServiceState) → SetsAside old mid → Gives mid entry new → Gives old entry new
+gives_after old mid entry new sets gives = by (subst (λ m. Gives m entry new) sets.left gives)
+  where
+    by : Gives (record old { turns = mid.turns }) entry new → Gives old entry new
+    by (answered place search reader turn answer turns is_open can given is after) =
+        answered place search reader turn answer turns is_open
+        (record {
+          request = can.request;
+          asks = can.asks;
+          exact = can.exact;
+          published = can.published;
+          seen = can.seen;
+          not_older = can.not_older;
+        }) (λ readers answers have. given readers answers (sets.still readers answers have)) is after
+    by (not_answered place search turns is_open still is after) =
+        not_answered place search turns is_open (λ readers answers have. still readers answers (sets.still readers answers have)) is after
+    by (too_slow place search turns timed is_open still is after) =
+        too_slow place search turns timed is_open (λ readers answers have. still readers answers (sets.still readers answers have)) is after
 
 -- after a publish, what is kept was kept before, or is its version
 pub kept_note : (old kept' : List ℕ) (entry : Entry) (line v : ℕ) → entry ≡ Published line v
@@ -478,13 +476,9 @@ either_map f (inr q) = inr q
 
 -- the desk and what was told of are as they were
 pub left_same : (desk : DeskState) (told : Known) (failed : ℕ) (desk' : DeskState) (told' : Known) (failed' : ℕ) (lengths : Lengths) (timed : Bool) (kept : List ℕ) (searches : ℕ)
-    (awaited : List OpenSearch) (lasts : List Last) → IsLeft desk told failed desk' told' failed'
-    → service_of desk' lengths timed told' kept searches awaited lasts ≡ service_of desk lengths timed told kept searches awaited lasts
-left_same desk told failed desk' told' failed' lengths timed kept searches awaited lasts left = rw (left.0, left.1) refl
-
--- few searches are open
-pub few_open : (service : ServiceState) → IsService service → length service.awaited ≤ service.searches
-few_open service is = omega (arith, is.turns 0 (last 0 0) is.reader_zero)
+    (awaited : List OpenSearch) (turns : TurnsState) → IsLeft desk told failed desk' told' failed'
+    → service_of desk' lengths timed told' kept searches awaited turns ≡ service_of desk lengths timed told kept searches awaited turns
+left_same desk told failed desk' told' failed' lengths timed kept searches awaited turns left = rw (left.0, left.1) refl
 
 -- the open search that a cancel names is refused
 pub cancelled_at : (line number place : ℕ) (old : ServiceState) (entry : Entry) (new : ServiceState) → IsPlaceOf old.awaited number place
@@ -498,11 +492,11 @@ cancelled_at line number place old entry new at found =
 -- an open search is refused for want of memory, or as too slow
 pub gives_memory : (place : ℕ) (old : ServiceState) (entry : Entry) (new : ServiceState) → IsGivenUp place reason.OutOfMemory old entry new
     → Gives old entry new
-gives_memory place old entry new is = not_answered place is.search is.is_open is.refused is.left
+gives_memory place was entry after is = not_answered place is.search after.turns is.is_open is.still is.refused is.left
 
 pub gives_too_slow : (place : ℕ) (old : ServiceState) (entry : Entry) (new : ServiceState) → old.limits.timed ≡ true
     → IsGivenUp place reason.TooSlow old entry new → Gives old entry new
-gives_too_slow place old entry new timed is = too_slow place is.search timed is.is_open is.refused is.left
+gives_too_slow place was entry after timed is = too_slow place is.search after.turns timed is.is_open is.still is.refused is.left
 
 -- whatever was read shows something
 pub shown_some : (o : OwnedItem) → (i : Item) × ShowsOwned o i
@@ -510,6 +504,7 @@ shown_some (owned.Put name body) = (item.put name.items body.items, refl)
 shown_some (owned.SkippedPut name size) = (item.put name.items (replicate size 0), (replicate size 0, refl, length-replicate {A = ℕ} size 0))
 shown_some (owned.Load name path) = (item.load name.items path.items, refl)
 shown_some (owned.Remove name) = (item.remove name.items, refl)
+shown_some (owned.RemoveUnder prefix) = (item.remove_under prefix.items, refl)
 shown_some owned.Publish = (item.publish, refl)
 shown_some (owned.Search case pattern) = (item.search case pattern.items, refl)
 shown_some (owned.SearchIn case name_pattern pattern) = (item.search_in case name_pattern.items pattern.items, refl)

@@ -1,4 +1,5 @@
 pub mod Service
+pub mod Turns
 pub mod Opening
 pub mod Collected
 pub mod Private

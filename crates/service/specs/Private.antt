@@ -3,4 +3,4 @@ pub mod Entries
 pub mod Items
 pub mod Requests
 pub mod Closing
-pub mod Found
+pub mod NextTurns

@@ -1,5 +1,7 @@
 //! Answers on their way to the service.
 
+ghost use Rattle.std.specs.Prelude.{◌≡◌};
+
 use crate::naming::Naming;
 use crate::question::Question;
 use published::Told;
@@ -12,26 +14,33 @@ use views::Shown;
 pub struct Done<J: Naming> {
     /// The number of the search, from 1.
     pub(crate) number: u32,
-    /// The number of the reader, from 1.
-    pub(crate) reader: u32,
     /// The texts of the search.
     pub(crate) question: Question,
-    /// The commands that the reader had seen when it had searched.
-    pub(crate) seen: Told,
     /// `None` if memory ran out for the answer, if the search was given up, or if the service was closed.
-    pub(crate) answer: Option<Shown>,
+    pub(crate) found: Option<Found<J>>,
     /// Whether it was given up since its time was over.
     pub(crate) is_late: bool,
+}
+
+/// An answer, and what was searched.
+#[derive(Drop)]
+pub(crate) struct Found<J: Naming> {
+    /// The number of the reader that took the documents, from 1.
+    pub(crate) reader: u32,
+    /// The commands that it had seen then.
+    pub(crate) seen: Told,
+    pub(crate) answer: Shown,
     pub(crate) of: PhantomData<J>,
+    pub(crate) ghost opening: { seen.opening ≡ J.book },
 }
 
 impl<J: Naming> Model for Done<J> {
-    ghost use Rattle.std.specs.Prelude.{◌≡◌, ℕ, IfSome};
+    ghost use Rattle.std.specs.Prelude.{ℕ, IfSome};
     ghost use Rattle.service.specs.Service.{IsFound};
 
     ghost Value = { ℕ };
 
     ghost view = { λ d. d.number };
 
-    ghost invariant = { λ d. (d.seen.opening ≡ J.book) × IfSome d.answer (IsFound d.question d.seen.commands) };
+    ghost invariant = { λ d. IfSome d.found (λ f. IsFound d.question f.seen.commands f.answer) };
 }

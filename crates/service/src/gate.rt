@@ -16,4 +16,9 @@ pub enum Point {
 pub trait Gate: Sync {
     /// The search with this number, from 1, is at this point.
     fn turn(&self, search: u32, point: Point);
+
+    /// Whether searches let those that wait work at each place where they can be stopped, and not only after a while.
+    fn stops(&self) -> bool {
+        false
+    }
 }

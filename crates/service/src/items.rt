@@ -1,7 +1,8 @@
 //! The items of a script, carried out.
 
 ghost use Rattle.std.specs.Prelude.{◌≡◌, ℕ, ◌+◌, ◌<◌, ◌^◌, ◌≤◌, List, [], ◌∷◌, length, IfOk, IfErr};
-ghost use Rattle.index.specs.declared.command.Command.TheVariants.{Put as put_command, Remove as remove_command};
+ghost use Rattle.index.specs.declared.command.Command.TheVariants.{Put as put_command, Remove as remove_command, RemoveUnder as remove_under_command};
+ghost use Rattle.index.specs.Documents.{is_taken, has_under};
 ghost use Rattle.index.specs.State.{State, state_of};
 ghost use Rattle.index.specs.Text.{most_bytes};
 ghost use Rattle.index.specs.declared.error.BodyErrorKind.TheVariants.{TooLong as body_too_long};
@@ -11,7 +12,7 @@ ghost use Rattle.transcript.specs.declared.entry.Entry.TheVariants.{Refused as r
 ghost use Rattle.published.specs.Desk.{DeskState, IsPutFault};
 ghost use Rattle.published.specs.History.{known};
 ghost use Rattle.steps.specs.LegalRows.{IsPut, IsNamed, IsRemove};
-ghost use Rattle.service.specs.Private.Entries.{reason_of_name, entry_of, published_entry_of, desk_after, HasBodyOrNoMemory, IsRemoveOrNoMemory, IsLoaded};
+ghost use Rattle.service.specs.Private.Entries.{reason_of_name, reason_of_remove, entry_of, published_entry_of, desk_after, HasBodyOrNoMemory, IsRemoveOrNoMemory, IsLoaded};
 ghost use Rattle.service.specs.Private.Items.{IsCarriedOut};
 
 use crate::question::{Question, Texts};
@@ -121,10 +122,21 @@ fn load<S: Source>(
     }
 }
 
+/// Why a remove is refused.
+fn reason_of_remove(error: RemoveError) -> Reason
+    ensures { result ≡ reason_of_remove error }
+{
+    match error {
+        RemoveError::NoSuchFile => Reason::NoSuchFile,
+        RemoveError::Full => Reason::Full,
+        RemoveError::OutOfMemory => Reason::OutOfMemory,
+    }
+}
+
 /// Removes the document of this name, of at most `longest` bytes.
 fn remove(alloc: Global, desk: &mut Desk, longest: usize, name: &[u8]) -> Result<u32, Reason>
     ensures entry { (line : ℕ) → IsNamed longest name.now line (entry_of line result)
-        (IsRemove desk.old.limit (state_of desk.old.accepted) name.now line (entry_of line result)) }
+        (IsRemove desk.old.limit (state_of desk.old.accepted) (is_taken name.now (state_of desk.old.accepted).documents) line (entry_of line result)) }
     ensures desk { desk.new ≡ desk_after result (remove_command name.now ∷ []) desk.old }
 {
     match Name::within(alloc, name, longest) {
@@ -135,14 +147,42 @@ fn remove(alloc: Global, desk: &mut Desk, longest: usize, name: &[u8]) -> Result
 
 /// Removes the document of this name.
 fn remove_named(desk: &mut Desk, name: &Name) -> Result<u32, Reason>
-    ensures entry { (line : ℕ) → IsRemoveOrNoMemory desk.old.limit (state_of desk.old.accepted) name.now line (entry_of line result) }
+    ensures entry { (line : ℕ) → IsRemoveOrNoMemory desk.old.limit (state_of desk.old.accepted) (is_taken name.now (state_of desk.old.accepted).documents) line
+        (entry_of line result) }
     ensures desk { desk.new ≡ desk_after result (remove_command name.now ∷ []) desk.old }
 {
     match desk.remove(name) {
         Ok(commands) => Ok(commands),
-        Err(RemoveError::NoSuchFile) => Err(Reason::NoSuchFile),
-        Err(RemoveError::Full) => Err(Reason::Full),
-        Err(RemoveError::OutOfMemory) => Err(Reason::OutOfMemory),
+        Err(error) => Err(reason_of_remove(error)),
+    }
+}
+
+/// Removes each document whose name begins with this prefix, which must be a name of at most `longest` bytes itself.
+fn remove_under(
+    alloc: Global,
+    desk: &mut Desk,
+    longest: usize,
+    prefix: &[u8],
+) -> Result<u32, Reason>
+    ensures entry { (line : ℕ) → IsNamed longest prefix.now line (entry_of line result)
+        (IsRemove desk.old.limit (state_of desk.old.accepted) (has_under prefix.now (state_of desk.old.accepted).documents) line (entry_of line result)) }
+    ensures desk { desk.new ≡ desk_after result (remove_under_command prefix.now ∷ []) desk.old }
+{
+    match Name::within(alloc, prefix, longest) {
+        Ok(prefix) => remove_under_name(desk, &prefix),
+        Err(error) => Err(reason_of_name(error)),
+    }
+}
+
+/// Removes each document whose name begins with this prefix.
+fn remove_under_name(desk: &mut Desk, prefix: &Name) -> Result<u32, Reason>
+    ensures entry { (line : ℕ) → IsRemoveOrNoMemory desk.old.limit (state_of desk.old.accepted) (has_under prefix.now (state_of desk.old.accepted).documents) line
+        (entry_of line result) }
+    ensures desk { desk.new ≡ desk_after result (remove_under_command prefix.now ∷ []) desk.old }
+{
+    match desk.remove_under(prefix) {
+        Ok(commands) => Ok(commands),
+        Err(error) => Err(reason_of_remove(error)),
     }
 }
 
@@ -235,6 +275,10 @@ pub fn carry_out<R: Threads + Wait + Sync, S: Source>(
         OwnedItem::Remove { name } => {
             Outcome::Entry(entry_of(line, remove(alloc, desk, lengths.name, &name)))
         }
+        OwnedItem::RemoveUnder { prefix } => Outcome::Entry(entry_of(
+            line,
+            remove_under(alloc, desk, lengths.name, &prefix),
+        )),
         OwnedItem::Publish => Outcome::Entry(publish_entry(line, publish(rt, desk, told))),
         OwnedItem::Search { case, pattern } => {
             Outcome::Search(Question::new(Texts::Search { case, pattern }))

@@ -4,13 +4,14 @@ ghost use Rattle.std.specs.Prelude.{◌≡◌, ℕ, ◌+◌, ◌<◌, ◌≤◌,
 ghost use Rattle.published.specs.declared.opening.TheConstants.{MAX_COMMANDS};
 ghost use Rattle.published.specs.Desk.{desk_state};
 ghost use Rattle.published.specs.History.{known};
-ghost use Rattle.steps.specs.Steps.{last};
+ghost use Rattle.service.specs.Turns.{last};
 ghost use Rattle.service.specs.Service.{first_service};
 ghost use Rattle.service.specs.Opening.{limits_of, opened_state};
 
 use crate::naming::Naming;
 use crate::reader::Reader;
 use crate::service::Service;
+use crate::turns::{Last, Turns};
 use index::Lengths;
 use published::{Desk, OpenError, Reading, Told};
 use std::alloc::{AllocError, Global};
@@ -18,7 +19,6 @@ use std::collections::VecDeque;
 use std::marker::{Model, PhantomData};
 use std::sync::Wait;
 use std::thread::Threads;
-use steps::Last;
 
 /// A desk and its readings, before the first item. They have no name in types yet. Contracts see them as their opening, its
 /// limits, and the number of readers. End it with `named`.
@@ -32,6 +32,8 @@ pub struct Opened {
     lengths: Lengths,
     /// How many milliseconds a search has at most, if there is such a limit.
     search_ms: Option<u32>,
+    /// Whether each answer shows its times.
+    times: bool,
 }
 
 impl Model for Opened {
@@ -49,7 +51,7 @@ impl Model for Opened {
 
 /// Opens a service for at most `max_commands` commands (1 to 4,294,967,294), for names, bodies and lines of these
 /// lengths, with `readers` readers in addition to reader 0 (0 to 16), in which a search has at most `search_ms`
-/// milliseconds, if there is such a limit.
+/// milliseconds, if there is such a limit, and each answer shows how long it waited and worked, and how, if `times`.
 ///
 /// `NoPlace` means that a reader got no place, and `OutOfMemory` that memory ran out.
 pub fn open<R: Threads + Wait + Sync>(
@@ -58,6 +60,7 @@ pub fn open<R: Threads + Wait + Sync>(
     max_commands: u32,
     lengths: Lengths,
     search_ms: Option<u32>,
+    times: bool,
     readers: u32,
 ) -> Result<Opened, OpenError>
     requires commands { (0 < max_commands) × (max_commands ≤ MAX_COMMANDS) }
@@ -73,6 +76,7 @@ pub fn open<R: Threads + Wait + Sync>(
             readings,
             lengths,
             search_ms,
+            times,
         }),
         _ => {
             desk.close(rt);
@@ -101,11 +105,20 @@ impl Opened {
             readings,
             lengths,
             search_ms,
+            times,
         } = self;
         match parts(alloc, readings) {
             Ok((readers, kept, lasts)) => {
                 let service = Service::new(
-                    alloc, desk, told, reading, kept, lasts, lengths, search_ms,
+                    alloc,
+                    desk,
+                    told,
+                    reading,
+                    kept,
+                    Turns::new(alloc, lasts),
+                    lengths,
+                    search_ms,
+                    times,
                 );
                 Ok((service, readers))
             }

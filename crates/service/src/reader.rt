@@ -1,18 +1,19 @@
 //! Readers answer searches, each with a reading of its own.
 
-ghost use Rattle.std.specs.Prelude.{◌≡◌, IfOk};
+ghost use Rattle.std.specs.Prelude.{◌≡◌, IfOk, IfSome};
 ghost use mathlib.Core.List.{IsPrefix};
-ghost use Rattle.index.specs.State.{state_of};
+ghost use Rattle.index.specs.State.{State, state_of};
 ghost use Rattle.prepare.specs.Prepared.{request_of};
+ghost use Rattle.prepare.specs.Request.{Request as RequestValue};
 ghost use Rattle.search.specs.Shown.{IsShownOf};
 ghost use Rattle.search.specs.Taken.{IsFirstOf, IsTakenOf};
-ghost use Rattle.service.specs.Private.Found.{IsFoundFirst};
 
-use crate::done::Done;
+use crate::done::{Done, Found};
 use crate::gate::{Gate, Point};
+use crate::hold::Hold;
 use crate::naming::Naming;
 use crate::tasks::{Request, Task};
-use crate::wish::Look;
+use crate::wish::{Look, Wish};
 use prepare::Prepared;
 use published::Reading;
 use search::{First, Taken, Unanswered, Watch};
@@ -56,46 +57,57 @@ impl<J: Naming> Reader<J> {
             wish,
             parts,
         } = task;
-        gate.turn(number, Point::Begin);
-        let answer = search_by(
-            rt,
-            alloc,
-            &mut self.reading,
-            &request.prepared,
-            gate,
-            number,
-            parts,
-            ahead,
-            Look::at(rt, &wish),
-        );
-        gate.turn(number, Point::Done);
-        let is_late = given_up(&answer) && !wish.is_called_off();
-        let Request {
-            question,
-            prepared: _,
-        } = request;
-        Done {
-            number,
-            reader: self.number,
-            question,
-            seen: self.reading.told(),
-            answer: answer.ok(),
-            is_late,
-            of: PhantomData,
-        }
+        let look = Look::at(rt, &wish);
+        answer_by(
+            rt, alloc, self, number, request, &wish, parts, ahead, gate, look,
+        )
     }
 }
 
-/// A gate that does nothing.
-pub(crate) struct NoGate;
-
-impl Gate for NoGate {
-    fn turn(&self, _search: u32, _point: Point) {}
+/// Answers the search of this number for what has a reader of its service.
+pub(crate) fn answer_by<J: Naming, H: Hold<J>, R: Threads + Sync, G: Gate, W: Watch + Copy + Send>(
+    rt: &R,
+    alloc: Global,
+    hold: &mut H,
+    number: u32,
+    request: Request,
+    wish: &Wish,
+    parts: usize,
+    ahead: usize,
+    gate: &G,
+    watch: W,
+) -> Done<J>
+    ensures { result ≡ number }
+{
+    gate.turn(number, Point::Begin);
+    let found = search_by(
+        rt,
+        alloc,
+        hold,
+        &request.prepared,
+        gate,
+        number,
+        parts,
+        ahead,
+        watch,
+    );
+    gate.turn(number, Point::Done);
+    let is_late = given_up(&found) && !wish.is_called_off();
+    let Request {
+        question,
+        prepared: _,
+    } = request;
+    Done {
+        number,
+        question,
+        found: found.ok(),
+        is_late,
+    }
 }
 
 /// Whether the search was given up.
-fn given_up(answer: &Result<Shown, Unanswered>) -> bool {
-    match answer {
+fn given_up<J: Naming>(found: &Result<Found<J>, Unanswered>) -> bool {
+    match found {
         Err(Unanswered::CalledOff) => true,
         _ => false,
     }
@@ -105,137 +117,141 @@ fn given_up(answer: &Result<Shown, Unanswered>) -> bool {
 /// their names are asked for too. To take so few and match their lines takes a small part of a millisecond.
 const FIRST: usize = 64;
 
-/// What was taken for a search, or already its answer.
-#[derive(Drop)]
-enum Found<'p> {
-    Taken(Taken<'p>),
-    Shown(Shown),
+/// How many candidates are taken at first.
+fn first_of(limit: u32) -> usize {
+    FIRST.saturating_add((limit as usize).saturating_mul(2))
 }
 
-/// Takes, calls the gate, and matches. While names and lines are matched, both copies of the index can change.
+/// Searches as reader 0: takes and matches. While names and lines are matched, both copies of the index can change. If the
+/// search has a limit, the first candidates are taken and matched before all others. If they are not enough, all are taken anew,
+/// at the version that is published then.
 ///
 /// `CalledOff` means that the search was given up. `OutOfMemory` means that memory ran out, that a name or a body has
 /// too many handles, or that the service was closed.
-pub(crate) fn search<G: Gate, W: Watch>(
+pub(crate) fn search<W: Watch>(
     alloc: Global,
     reading: &mut Reading,
     prepared: &Prepared,
-    gate: &G,
-    number: u32,
     watch: &mut W,
 ) -> Result<Shown, Unanswered>
     ensures opening { reading.new.opening ≡ reading.old.opening }
     ensures seen { IsPrefix reading.old.commands reading.new.commands }
     ensures answer { IfOk result (IsShownOf (state_of reading.new.commands) (request_of prepared.now)) }
 {
-    let found = find(alloc, reading, prepared, gate, number, 0, watch)?;
-    match found {
-        Found::Taken(taken) => taken.show(alloc, watch),
-        Found::Shown(shown) => Ok(shown),
+    if let Some(limit) = prepared.limit {
+        ask(watch)?;
+        let first = take_first(alloc, reading, prepared, first_of(limit))?;
+        if let Some(shown) = show_first(alloc, first, watch)? {
+            return Ok(shown);
+        }
+    }
+    ask(watch)?;
+    take(alloc, reading, prepared)?.show(alloc, watch)
+}
+
+/// What is shown of what was taken first, if that is enough.
+fn show_first<W: Watch>(
+    alloc: Global,
+    first: First<'_>,
+    watch: &mut W,
+) -> Result<Option<Shown>, Unanswered>
+    ensures { IfOk result (λ found. IfSome found (λ shown. (state : State) (request : RequestValue) → IsFirstOf state request first.entry → IsShownOf state request shown)) }
+{
+    match first {
+        First::All(taken) => Ok(Some(taken.show(alloc, watch)?)),
+        First::Part(part) => part.show(alloc, 0, watch),
     }
 }
 
-/// The same, but a large search may go on in so many threads, and some text of the answer is formed.
-fn search_by<R: Threads + Sync, G: Gate, W: Watch + Copy + Send>(
+/// The same for what has a reader, but a large search may go on in so many threads, and some text of the answer is formed.
+fn search_by<J: Naming, H: Hold<J>, R: Threads + Sync, G: Gate, W: Watch + Copy + Send>(
     rt: &R,
     alloc: Global,
-    reading: &mut Reading,
+    hold: &mut H,
     prepared: &Prepared,
     gate: &G,
     number: u32,
     parts: usize,
     ahead: usize,
     watch: W,
-) -> Result<Shown, Unanswered>
-    ensures opening { reading.new.opening ≡ reading.old.opening }
-    ensures seen { IsPrefix reading.old.commands reading.new.commands }
-    ensures answer { IfOk result (IsShownOf (state_of reading.new.commands) (request_of prepared.now)) }
+) -> Result<Found<J>, Unanswered>
+    ensures { IfOk result (λ found. IsShownOf (state_of found.seen.commands) (request_of prepared.now) found.answer) }
 {
     let mut own = watch;
-    let found = find(alloc, reading, prepared, gate, number, ahead, &mut own)?;
-    match found {
-        Found::Taken(taken) => taken.show_by(rt, alloc, parts, ahead, watch),
-        Found::Shown(shown) => Ok(shown),
-    }
-}
-
-/// Takes the candidates of a search that is still wanted, and calls the gate. If it has a limit, the first candidates are
-/// taken and matched before all others. If they are not enough, all are taken anew, at the version that is published then,
-/// and the gate is called once more.
-fn find<'p, G: Gate, W: Watch>(
-    alloc: Global,
-    reading: &mut Reading,
-    prepared: &'p Prepared,
-    gate: &G,
-    number: u32,
-    ahead: usize,
-    watch: &mut W,
-) -> Result<Found<'p>, Unanswered>
-    ensures opening { reading.new.opening ≡ reading.old.opening }
-    ensures seen { IsPrefix reading.old.commands reading.new.commands }
-    ensures found { IfOk result (IsFoundFirst (state_of reading.new.commands) (request_of prepared.now)) }
-{
-    let Some(limit) = prepared.limit else {
-        let taken = take(alloc, reading, prepared, gate, number, watch)?;
-        return Ok(Found::Taken(taken));
-    };
-    let most = FIRST.saturating_add((limit as usize).saturating_mul(2));
-    match take_first(alloc, reading, prepared, most, gate, number, watch)? {
-        First::All(taken) => return Ok(Found::Taken(taken)),
-        First::Part(part) => {
-            if let Some(shown) = part.show(alloc, ahead, watch)? {
-                return Ok(Found::Shown(shown));
-            }
+    if let Some(limit) = prepared.limit {
+        ask(&mut own)?;
+        let (first, seen) = hold.take_first(alloc, prepared, first_of(limit))?;
+        gate.turn(number, Point::Matching);
+        if let Some(shown) = show_first_by(rt, alloc, first, parts, ahead, watch)? {
+            return Ok(seen.found(hold.timed(shown)));
         }
     }
-    let taken = take(alloc, reading, prepared, gate, number, watch)?;
-    Ok(Found::Taken(taken))
+    ask(&mut own)?;
+    let (taken, seen) = hold.take(alloc, prepared)?;
+    gate.turn(number, Point::Matching);
+    let shown = taken.show_by(rt, alloc, parts, ahead, watch)?;
+    Ok(seen.found(hold.timed(shown)))
 }
 
-/// Takes the first candidates of a search that is still wanted, and calls the gate.
-fn take_first<'p, G: Gate, W: Watch>(
+/// What is shown of what was taken first, if that is enough.
+fn show_first_by<R: Threads + Sync, W: Watch + Copy + Send>(
+    rt: &R,
+    alloc: Global,
+    first: First<'_>,
+    parts: usize,
+    ahead: usize,
+    watch: W,
+) -> Result<Option<Shown>, Unanswered>
+    ensures { IfOk result (λ found. IfSome found (λ shown. (state : State) (request : RequestValue) → IsFirstOf state request first.entry → IsShownOf state request shown)) }
+{
+    match first {
+        First::All(taken) => Ok(Some(taken.show_by(rt, alloc, parts, ahead, watch)?)),
+        First::Part(part) => {
+            let mut own = watch;
+            part.show(alloc, ahead, &mut own)
+        }
+    }
+}
+
+/// Asks whether a search is still wanted. An `Err` is `CalledOff`: it is not.
+fn ask<W: Watch>(watch: &mut W) -> Result<(), Unanswered> {
+    if watch.wants() {
+        Ok(())
+    } else {
+        Err(Unanswered::CalledOff)
+    }
+}
+
+/// Takes the first candidates of a search.
+pub(crate) fn take_first<'p>(
     alloc: Global,
     reading: &mut Reading,
     prepared: &'p Prepared,
     most: usize,
-    gate: &G,
-    number: u32,
-    watch: &mut W,
 ) -> Result<First<'p>, Unanswered>
     ensures opening { reading.new.opening ≡ reading.old.opening }
     ensures seen { IsPrefix reading.old.commands reading.new.commands }
     ensures first { IfOk result (IsFirstOf (state_of reading.new.commands) (request_of prepared.now)) }
 {
-    if !watch.wants() {
-        return Err(Unanswered::CalledOff);
-    }
     let Some(Ok(first)) = reading.look(|index| search::take_first(alloc, index, prepared, most))
     else {
         return Err(Unanswered::OutOfMemory);
     };
-    gate.turn(number, Point::Matching);
     Ok(first)
 }
 
-/// Takes the candidates of a search that is still wanted, and calls the gate.
-fn take<'p, G: Gate, W: Watch>(
+/// Takes the candidates of a search.
+pub(crate) fn take<'p>(
     alloc: Global,
     reading: &mut Reading,
     prepared: &'p Prepared,
-    gate: &G,
-    number: u32,
-    watch: &mut W,
 ) -> Result<Taken<'p>, Unanswered>
     ensures opening { reading.new.opening ≡ reading.old.opening }
     ensures seen { IsPrefix reading.old.commands reading.new.commands }
     ensures taken { IfOk result (IsTakenOf (state_of reading.new.commands) (request_of prepared.now)) }
 {
-    if !watch.wants() {
-        return Err(Unanswered::CalledOff);
-    }
     let Some(Ok(taken)) = reading.look(|index| search::take(alloc, index, prepared)) else {
         return Err(Unanswered::OutOfMemory);
     };
-    gate.turn(number, Point::Matching);
     Ok(taken)
 }

@@ -14,20 +14,22 @@ ghost use Rattle.transcript.specs.declared.entry.Entry.TheVariants.{Found as fou
 ghost use Rattle.transcript.specs.declared.entry.SearchReason.TheVariants.{OutOfMemory as out_of_memory, TooSlow as too_slow};
 ghost use Rattle.steps.specs.LegalRows.{status_entry};
 ghost use Rattle.steps.specs.Rows.{searches_of, version_in, failures_in};
-ghost use Rattle.steps.specs.Steps.{OpenSearch as OpenSearchValue, last_of};
+ghost use Rattle.steps.specs.Steps.{OpenSearch as OpenSearchValue};
 ghost use Rattle.service.specs.Collected.{number_in};
-ghost use Rattle.service.specs.Service.{ServiceState, Takes, Gives, IsFound, IsCounted, written_by, failures_by, IsKind, HasNumber};
-ghost use Rattle.service.specs.Private.Closing.{CanClose, IsUnused, IsAsked, IsRefused, IsCancelled, IsPlaceOf, IsGivenUp, IsOwnEntry, with_kept, with_search};
+ghost use Rattle.service.specs.Service.{ServiceState, Takes, Gives, SetsAside, IsFound, IsCounted, written_by, failures_by, IsKind, HasNumber};
+ghost use Rattle.service.specs.Private.Closing.{CanClose, IsAsked, IsRefused, IsCancelled, IsPlaceOf, IsGivenUp, IsOwnEntry, with_kept, with_search};
 
-use crate::done::Done;
+use crate::begun::Begun;
+use crate::done::{Done, Found};
 use crate::items::{Outcome, carry_out};
 use crate::naming::Naming;
 use crate::open_search::OpenSearch;
 use crate::question::Question;
-use crate::reader::{NoGate, search};
+use crate::reader::search;
 use crate::reply::Reply;
 use crate::source::Source;
 use crate::tasks::{Request, Task};
+use crate::turns::Turns;
 use crate::wish::{Look, Wish};
 use index::Lengths;
 use input::ReadItem;
@@ -39,13 +41,12 @@ use std::collections::VecDeque;
 use std::marker::{Model, PhantomData};
 use std::sync::Wait;
 use std::thread::Threads;
-use std::time::Clock;
-use steps::Last;
+use std::time::{Clock, Duration, Instant};
 use transcript::{Entry, Reason, SearchReason};
 use views::Shown;
 
 /// About how many bytes of bodies the second copy of the index gets at a time. A piece takes a few milliseconds.
-const PIECE: usize = 262_144;
+const PIECE: usize = 65_536;
 
 /// The accepted commands, what was published last, and the open searches. It takes items and answers, one after the
 /// other, and says which entry each gets.
@@ -63,12 +64,14 @@ pub struct Service<J: Naming> {
     searches: u32,
     /// The open searches, in their order.
     awaited: Vec<OpenSearch>,
-    /// The last answer of each reader, reader 0 first.
-    lasts: Vec<Last>,
+    /// The turns of the readers.
+    turns: Turns,
     /// How long names, bodies and lines may be.
     lengths: Lengths,
     /// How many milliseconds a search has at most, if there is such a limit.
     search_ms: Option<u32>,
+    /// Whether each answer shows its times.
+    times: bool,
     of: PhantomData<J>,
 }
 
@@ -79,10 +82,10 @@ impl<J: Naming> Model for Service<J> {
 
     ghost Value = { ServiceState };
 
-    ghost view = { λ s. service_of s.desk s.lengths (is_some s.search_ms) s.told s.kept.items s.searches s.awaited.items s.lasts.items };
+    ghost view = { λ s. service_of s.desk s.lengths (is_some s.search_ms) s.told s.kept.items s.searches s.awaited.items s.turns };
 
     ghost invariant = { λ s. (s.desk.opening ≡ J.book) × (s.told.opening ≡ J.book) × (s.reading.opening ≡ J.book)
-        × IsService (service_of s.desk s.lengths (is_some s.search_ms) s.told s.kept.items s.searches s.awaited.items s.lasts.items)
+        × IsService (service_of s.desk s.lengths (is_some s.search_ms) s.told s.kept.items s.searches s.awaited.items s.turns)
         × (s.desk.published ≡ s.told.commands) };
 }
 
@@ -94,15 +97,15 @@ impl<J: Naming> Service<J> {
         told: Told,
         reading: Reading,
         kept: VecDeque<u32>,
-        lasts: Vec<Last>,
+        turns: Turns,
         lengths: Lengths,
         search_ms: Option<u32>,
+        times: bool,
     ) -> Service<J>
         requires opening { (desk.opening ≡ J.book) × (told.opening ≡ J.book) × (reading.opening ≡ J.book) }
         requires empty { (desk.accepted ≡ []) × (desk.published ≡ []) × (told.commands ≡ []) }
         requires kept { kept.items ≡ 0 ∷ [] }
-        requires lasts { IsUnused lasts.items }
-        ensures { result ≡ record { limits = record { commands = desk.limit; lengths = lengths; timed = is_some search_ms }; accepted = []; told = []; kept = 0 ∷ []; searches = 0; awaited = []; lasts = lasts.items } }
+        ensures { result ≡ record { limits = record { commands = desk.limit; lengths = lengths; timed = is_some search_ms }; accepted = []; told = []; kept = 0 ∷ []; searches = 0; awaited = []; turns = turns } }
     {
         Service {
             desk,
@@ -111,9 +114,10 @@ impl<J: Naming> Service<J> {
             kept,
             searches: 0,
             awaited: Vec::new(alloc),
-            lasts,
+            turns,
             lengths,
             search_ms,
+            times,
             of: PhantomData,
         }
     }
@@ -230,7 +234,7 @@ impl<J: Naming> Service<J> {
         requires search { searches_of request.item ≡ 1 }
         ensures { IsAsked request.item self.old result self.new }
     {
-        let Ok(wish) = Wish::new(rt, alloc, self.search_ms) else {
+        let Ok(wish) = Wish::new(rt, alloc, self.search_ms, self.times) else {
             return self.refuse(SearchReason::OutOfMemory);
         };
         match self.await_answer(alloc, &request.question, &wish) {
@@ -248,7 +252,7 @@ impl<J: Naming> Service<J> {
     /// more if no other is open, since a part more keeps the processors busy where parts take unequally long.
     fn parts(&self) -> usize {
         if self.awaited.len() == 1 {
-            self.lasts.len()
+            self.turns.readers()
         } else {
             1
         }
@@ -338,17 +342,12 @@ impl<J: Naming> Service<J> {
         let place = place_in(&self.awaited, done.number)?;
         let Done {
             number: _,
-            reader,
             question,
-            seen,
-            answer,
+            found,
             is_late,
-            of: _,
         } = done;
-        match answer {
-            Some(answer) if self.can_stand(place, reader, &question, &seen, &answer) => {
-                Some(self.close_with(place, reader, answer))
-            }
+        match found {
+            Some(found) => Some(self.accept(rt, alloc, place, &question, found)),
             None if is_late && self.search_ms.is_some() => {
                 Some(self.refuse_at(place, SearchReason::TooSlow))
             }
@@ -374,26 +373,27 @@ impl<J: Naming> Service<J> {
         Some(self.answer_at(rt, alloc, place, &task.request))
     }
 
+    /// Takes note of a search that was stopped after its reader had taken what it needs: the reader's next turn is set aside for
+    /// it, so that it can be answered after searches that are taken later.
+    pub fn set_aside(&mut self, begun: &Begun)
+        ensures { SetsAside self.old self.new }
+    {
+        if place_in(&self.awaited, begun.number).is_some() {
+            self.turns
+                .set_aside(begun.number, begun.reader, begun.version);
+        }
+    }
+
     /// Whether a reader's answer is accepted for the search at this place.
-    fn can_stand(
-        &self,
-        place: usize,
-        reader: u32,
-        question: &Question,
-        seen: &Told,
-        answer: &Shown,
-    ) -> bool
+    fn can_stand(&self, place: usize, question: &Question, seen: &Told, answer: &Shown) -> bool
         requires place { place < length self.now.awaited }
         requires opening { seen.now.opening ≡ J.book }
         requires exact { IsFound question.now seen.now.commands answer.now }
-        ensures { MatchBool result (CanClose self.now place reader answer.now) Unit }
+        ensures { MatchBool result (CanClose self.now place answer.now) Unit }
     {
         let search = &self.awaited[place];
         let version = answer.version();
         if !question.is_same(&search.question) || version < search.least {
-            return false;
-        }
-        if reader as usize >= self.lasts.len() || version < self.lasts[reader as usize].version {
             return false;
         }
         seen.begins(&self.told) && self.kept.binary_search(&version).is_ok()
@@ -442,7 +442,7 @@ impl<J: Naming> Service<J> {
             prepared,
             &search.wish,
         ) {
-            Ok(answer) => self.close_with(place, 0, answer),
+            Ok(answer) => self.close_here(place, answer),
             Err(error) => self.give_up(place, error),
         }
     }
@@ -460,25 +460,87 @@ impl<J: Naming> Service<J> {
         self.refuse_at(place, SearchReason::OutOfMemory)
     }
 
-    /// Closes the search at this place with an answer.
-    fn close_with(&mut self, place: usize, reader: u32, answer: Shown) -> Entry
-        requires { CanClose self.old place reader answer }
+    /// Closes the search at this place with what a reader found for this question, if that is accepted. Otherwise the search is
+    /// answered anew.
+    fn accept<R: Wait + Clock>(
+        &mut self,
+        rt: &R,
+        alloc: Global,
+        place: usize,
+        question: &Question,
+        found: Found<J>,
+    ) -> Entry
+        requires place { place < length self.old.awaited }
+        requires exact { IsFound question.now found.seen.commands found.answer }
         ensures gives { Gives self.old result self.new }
         ensures own { IsOwnEntry self.old.awaited place result }
         ensures searches { self.new.searches ≡ self.old.searches }
     {
-        let search = self.awaited.remove(place);
-        let turn = self.lasts[reader as usize].turn + 1;
-        self.lasts[reader as usize] = Last {
-            turn,
-            version: answer.version(),
-        };
-        Entry::Found {
-            search: search.number,
+        let Found {
             reader,
-            turn,
+            seen,
             answer,
+            of: _,
+        } = found;
+        if self.can_stand(place, question, &seen, &answer) {
+            return self.close_by(rt, alloc, place, reader, answer);
         }
+        self.answer_anew(rt, alloc, place)
+    }
+
+    /// Closes the search at this place with the answer of a reader. If no turn is in order for it, the search is answered anew.
+    fn close_by<R: Wait + Clock>(
+        &mut self,
+        rt: &R,
+        alloc: Global,
+        place: usize,
+        reader: u32,
+        answer: Shown,
+    ) -> Entry
+        requires place { place < length self.old.awaited }
+        requires closes { CanClose self.old place answer }
+        ensures gives { Gives self.old result self.new }
+        ensures own { IsOwnEntry self.old.awaited place result }
+        ensures searches { self.new.searches ≡ self.old.searches }
+    {
+        match self.close_with(place, reader, answer) {
+            Some(entry) => entry,
+            None => self.answer_anew(rt, alloc, place),
+        }
+    }
+
+    /// Closes the search at this place with an answer of reader 0, which is never older than its last one.
+    fn close_here(&mut self, place: usize, answer: Shown) -> Entry
+        requires place { place < length self.old.awaited }
+        requires closes { CanClose self.old place answer }
+        ensures gives { Gives self.old result self.new }
+        ensures own { IsOwnEntry self.old.awaited place result }
+        ensures searches { self.new.searches ≡ self.old.searches }
+    {
+        match self.close_with(place, 0, answer) {
+            Some(entry) => entry,
+            None => self.refuse_at(place, SearchReason::OutOfMemory),
+        }
+    }
+
+    /// Closes the search at this place with an answer. `None` means that no turn is in order for it: it is open still.
+    fn close_with(&mut self, place: usize, reader: u32, answer: Shown) -> Option<Entry>
+        requires place { place < length self.old.awaited }
+        requires closes { CanClose self.old place answer }
+        ensures gives { IfSome result (λ entry. Gives self.old entry self.new) }
+        ensures own { IfSome result (IsOwnEntry self.old.awaited place) }
+        ensures none { IfNone result (SetsAside self.old self.new) }
+        ensures searches { self.new.searches ≡ self.old.searches }
+    {
+        let number = self.awaited[place].number;
+        let turn = self.turns.take(number, reader, answer.version())?;
+        let search = self.awaited.remove(place);
+        Some(Entry::Found {
+            search: search.number,
+            reader: turn.reader,
+            turn: turn.turn,
+            answer,
+        })
     }
 
     /// Closes the search at this place without an answer.
@@ -486,6 +548,8 @@ impl<J: Naming> Service<J> {
         requires { place < length self.old.awaited }
         ensures { IsGivenUp place reason self.old result self.new }
     {
+        let number = self.awaited[place].number;
+        self.turns.give_back(number);
         let search = self.awaited.remove(place);
         Entry::SearchRefused {
             search: search.number,
@@ -513,9 +577,10 @@ impl<J: Naming> Service<J> {
             kept: _,
             searches: _,
             awaited,
-            lasts: _,
+            turns: _,
             lengths: _,
             search_ms: _,
+            times: _,
             of: _,
         } = self;
         for search in awaited.as_slice() {
@@ -561,13 +626,16 @@ fn answer_last<R: Wait + Clock>(
     ensures answer { IfOk result (IsShownOf (state_of told.now.commands) (request_of prepared.now)) }
     ensures opening { reading.new.opening ≡ reading.old.opening }
 {
+    let begun = Instant::now(rt).ok();
     reading.learn(told);
     let mut look = Look::at(rt, wish);
     for _ in rt.forever() {
-        match search(alloc, reading, prepared, &NoGate, 0, &mut look) {
+        match search(alloc, reading, prepared, &mut look) {
             Ok(answer) => {
                 if answer.version() == told.version() {
-                    return Ok(answer);
+                    let worked = begun.and_then(|begun| begun.elapsed(rt).ok());
+                    let worked = worked.unwrap_or(Duration::ZERO);
+                    return Ok(wish.timed(rt, worked, answer));
                 }
             }
             Err(error) => return Err(error),

@@ -150,6 +150,29 @@ pub struct Task {
     pub(crate) parts: usize,
 }
 
+impl Task {
+    /// The lane in which the search waits for a reader: the word after its `--lane`, and no byte if it has none, or if there is no
+    /// memory for it.
+    pub fn lane(&self, alloc: Global) -> Vec<u8> {
+        match self.request.question.texts() {
+            Texts::Find { words } => lane_of(alloc, words),
+            _ => Vec::new(alloc),
+        }
+    }
+}
+
+/// The lane in the words of a search with options.
+fn lane_of(alloc: Global, words: &[u8]) -> Vec<u8> {
+    let lane = match read_find(alloc, words) {
+        Ok(find) => find.options.lane,
+        Err(_) => None,
+    };
+    match Vec::from_slice(alloc, lane.unwrap_or(&[])) {
+        Ok(lane) => lane,
+        Err(_) => Vec::new(alloc),
+    }
+}
+
 impl Model for Task {
     ghost use Rattle.std.specs.Prelude.{ℕ};
 

@@ -1,10 +1,15 @@
 //! Searches that are not wanted any more.
 
-use search::Watch;
+ghost use Rattle.index.specs.State.{State};
+ghost use Rattle.prepare.specs.Request.{Request as RequestValue};
+ghost use Rattle.search.specs.Shown.{IsShownOf};
+
+use search::{Watch, times_show_nothing};
 use std::alloc::{AllocError, Global};
 use std::sync::Arc;
 use std::sync::atomic::{AtomicBool, Ordering};
 use std::time::{Clock, Duration, Instant};
+use views::{Shown, Times};
 
 /// Whether a search is still wanted: it was not called off, and its time is not over.
 #[derive(Drop)]
@@ -12,19 +17,24 @@ pub(crate) struct Wish {
     called_off: Arc<AtomicBool, Global>,
     /// When its time is over. `None` means that it has no limit of time.
     until: Option<Instant>,
+    /// When it was asked. `None` means that its times are not shown.
+    asked: Option<Instant>,
 }
 
 impl Wish {
-    /// The wish for a search that is asked now, and has so many milliseconds. Where the clock cannot be read, it has no
-    /// limit of time. An `Err` means that memory ran out.
+    /// The wish for a search that is asked now, has so many milliseconds, and shows its times if `times`. Where the clock cannot be
+    /// read, it has no limit of time, and shows none. An `Err` means that memory ran out.
     pub(crate) fn new<R: Clock>(
         rt: &R,
         alloc: Global,
         search_ms: Option<u32>,
+        times: bool,
     ) -> Result<Wish, AllocError> {
+        let asked = if times { Instant::now(rt).ok() } else { None };
         Ok(Wish {
             called_off: Arc::new(alloc, AtomicBool::new(false))?,
             until: end_of(rt, search_ms),
+            asked,
         })
     }
 
@@ -33,6 +43,28 @@ impl Wish {
         Ok(Wish {
             called_off: Arc::try_clone(&self.called_off)?,
             until: self.until,
+            asked: self.asked,
+        })
+    }
+
+    /// The answer with its times, if they are shown: so long was worked for it.
+    pub(crate) fn timed<R: Clock>(&self, rt: &R, worked: Duration, answer: Shown) -> Shown
+        ensures { (state : State) (request : RequestValue) → IsShownOf state request answer → IsShownOf state request result }
+    {
+        times_show_nothing();
+        match self.times(rt, worked) {
+            Some(times) => answer.with_times(times),
+            None => answer,
+        }
+    }
+
+    /// How long the search has waited until now, apart from what was worked for it, and how long that was. `None` means that its
+    /// times are not shown, or that the clock cannot be read.
+    fn times<R: Clock>(&self, rt: &R, worked: Duration) -> Option<Times> {
+        let open = self.asked?.elapsed(rt).ok()?;
+        Some(Times {
+            waited: micros(open.saturating_sub(worked)),
+            worked: micros(worked),
         })
     }
 
@@ -46,6 +78,11 @@ impl Wish {
         self.called_off.load(Ordering::SeqCst)
     }
 
+    /// Whether the search is not wanted any more.
+    pub(crate) fn is_over<R: Clock>(&self, rt: &R) -> bool {
+        self.is_called_off() || self.is_late(rt)
+    }
+
     /// Whether its time is over. Where the clock cannot be read, it is not.
     fn is_late<R: Clock>(&self, rt: &R) -> bool {
         let Some(until) = self.until else {
@@ -56,6 +93,11 @@ impl Wish {
             Err(_) => false,
         }
     }
+}
+
+/// So many microseconds, as far as there is room.
+fn micros(time: Duration) -> u64 {
+    u64::try_from(time.as_micros()).unwrap_or(u64::MAX)
 }
 
 /// When so many milliseconds from now are over. `None` if there is no such limit, or the clock cannot be read.
@@ -90,6 +132,6 @@ impl<R: Clock> Watch for Look<'_, R> {
     ghost has_said_no = { λ _. Unit {0} };
 
     fn wants(&mut self) -> bool {
-        !self.wish.is_called_off() && !self.wish.is_late(self.rt)
+        !self.wish.is_over(self.rt)
     }
 }

@@ -1,37 +1,98 @@
-//! Readers at work, each in a thread of its own.
+//! Searches that threads answer in turn.
+
+ghost use Rattle.std.specs.Prelude.{◌≡◌};
 
 use crate::done::Done;
 use crate::gate::Gate;
+use crate::hold::Hold;
+use crate::line::{Job, Left, Line};
 use crate::naming::Naming;
-use crate::reader::Reader;
-use crate::tasks::Task;
-use crossbeam_channel::{Receiver, Sender};
+use crate::post::Post;
+use crate::reader::answer_by;
+use crate::seat::{Pauses, Seat, Seated, Shift};
+use crate::tasks::{Request, Task};
+use crate::wish::Wish;
 use std::alloc::Global;
-use std::sync::Wait;
+use std::sync::{Arc, Wait};
 use std::thread::Threads;
 use std::time::Clock;
 
-impl<J: Naming> Reader<J> {
-    /// Answers tasks as they come, and sends the answers as messages, until no more tasks can come or nobody takes the messages.
-    /// Of each answer's text, about `ahead` bytes are formed here.
-    pub fn work<M: From<Done<J>> + Drop, R: Wait + Clock + Threads + Sync, G: Gate>(
-        self,
+impl<J: Naming + Send + Sync, T: Send + Drop> Line<J, T> {
+    /// Answers a search in the thread of this post, as `Reader::answer` does. Where others wait, it works for some 10
+    /// milliseconds at a time, up to its next look whether it is wanted, and then waits behind them. What it has at its end is to be
+    /// given back.
+    pub fn answer<R: Wait + Clock + Threads + Sync, G: Gate>(
+        &self,
         rt: &R,
         alloc: Global,
-        tasks: Receiver<Task>,
-        messages: Sender<M>,
+        post: &Arc<Post<J, T>, Global>,
+        job: Job<J>,
         ahead: usize,
         gate: &G,
-    ) {
-        let mut reader = self;
-        for _ in rt.forever() {
-            let Ok(task) = tasks.recv(rt) else {
-                return;
-            };
-            let done = reader.answer(rt, alloc, task, ahead, gate);
-            if messages.send(rt, M::from(done)).is_err() {
-                return;
-            }
-        }
+    ) -> (Left<J>, Done<J>)
+        ensures { result.1 ≡ job.task }
+    {
+        let Job { reader, task, lane } = job;
+        let Task {
+            number,
+            request,
+            wish,
+            parts,
+        } = task;
+        let seat = Seat::new(rt, post, number, lane, reader);
+        let mut seated = Seated {
+            rt,
+            seat: &seat,
+            wish: &wish,
+        };
+        let done = answer_at(
+            rt,
+            alloc,
+            self,
+            &seat,
+            &mut seated,
+            number,
+            request,
+            &wish,
+            parts,
+            ahead,
+            gate,
+        );
+        (seat.leave(), done)
     }
+}
+
+/// Answers the search of this number at its seat, for what has its reader.
+fn answer_at<
+    'a,
+    J: Naming,
+    S: Sync,
+    L: Pauses<S> + Sync,
+    H: Hold<J>,
+    R: Wait + Clock + Threads + Sync,
+    G: Gate,
+>(
+    rt: &'a R,
+    alloc: Global,
+    line: &'a L,
+    seat: &'a S,
+    hold: &mut H,
+    number: u32,
+    request: Request,
+    wish: &'a Wish,
+    parts: usize,
+    ahead: usize,
+    gate: &G,
+) -> Done<J>
+    ensures { result ≡ number }
+{
+    let shift = Shift {
+        rt,
+        wish,
+        seat,
+        line,
+    };
+    answer_by(
+        rt, alloc, hold, number, request, wish, parts, ahead, gate, shift,
+    )
 }

@@ -9,7 +9,7 @@ ghost use Rattle.simulation.specs.Private.Reading.{AreClear, Ends, HasRoom, HasW
 use crate::cells::word_if;
 use crate::node::Node;
 use crate::step::step;
-use crate::watch::{CalledOff, Watch, look};
+use crate::watch::{CalledOff, Pace, Watch};
 use ere::is_word_byte;
 
 /// Which words of a node are looked for.
@@ -30,6 +30,7 @@ pub(crate) fn has_word<W: Watch>(
     wanted: WordRange,
     entered: &mut [u64],
     cells: &mut [u64],
+    pace: &mut Pace,
     watch: &mut W,
 ) -> Result<bool, CalledOff>
     requires { HasRoom (shape node.now) entered.old cells.old }
@@ -37,7 +38,16 @@ pub(crate) fn has_word<W: Watch>(
     ensures called_off { IfErr result (λ _. W.has_said_no watch.new) }
 {
     clear(cells);
-    let end = next_end(node, line, wanted, wanted.first, entered, cells, watch)?;
+    let end = next_end(
+        node,
+        line,
+        wanted,
+        wanted.first,
+        entered,
+        cells,
+        pace,
+        watch,
+    )?;
     Ok(end.is_some())
 }
 
@@ -48,6 +58,7 @@ pub(crate) fn last_end<W: Watch>(
     wanted: WordRange,
     entered: &mut [u64],
     cells: &mut [u64],
+    pace: &mut Pace,
     watch: &mut W,
 ) -> Result<Option<usize>, CalledOff>
     requires { HasRoom (shape node.now) entered.old cells.old }
@@ -56,12 +67,22 @@ pub(crate) fn last_end<W: Watch>(
     ensures called_off { IfErr result (λ _. W.has_said_no watch.new) }
 {
     clear(cells);
-    let Some(first) = next_end(node, line, wanted, wanted.first, entered, cells, watch)? else {
+    let Some(first) = next_end(
+        node,
+        line,
+        wanted,
+        wanted.first,
+        entered,
+        cells,
+        pace,
+        watch,
+    )?
+    else {
         return Ok(None);
     };
     let mut last = first;
     loop {
-        let Some(end) = next_end(node, line, wanted, last, entered, cells, watch)? else {
+        let Some(end) = next_end(node, line, wanted, last, entered, cells, pace, watch)? else {
             return Ok(Some(last));
         };
         last = end;
@@ -78,6 +99,7 @@ fn next_end<W: Watch>(
     from: usize,
     entered: &mut [u64],
     cells: &mut [u64],
+    pace: &mut Pace,
     watch: &mut W,
 ) -> Result<Option<usize>, CalledOff>
     requires room { HasRoom (shape node.now) entered.old cells.old }
@@ -91,7 +113,7 @@ fn next_end<W: Watch>(
         if here >= wanted.past && are_clear(cells) {
             return Ok(None);
         }
-        look(here, watch)?;
+        pace.look(watch)?;
         begin(is_start(line, wanted, here), entered);
         step(node, 1, line, here, entered, cells);
         if is_end(line, wanted, here + 1, cells) {

@@ -113,3 +113,17 @@ pub(crate) fn begins_at_start(node: &Node) -> bool
         Node::Times(body, _) => begins_at_start(body),
     }
 }
+
+/// How many nodes there are, with this one.
+#[cycle(count)]
+pub(crate) fn count(node: &Node) -> usize {
+    match node {
+        Node::Nothing => 1,
+        Node::Set(_) => 1,
+        Node::Run(_, _) => 1,
+        Node::Both(left, right, _, _, _) => count(left).saturating_add(count(right)),
+        Node::Either(left, right, _) => count(left).saturating_add(count(right)),
+        Node::Loop(body, _) => count(body).saturating_add(1),
+        Node::Times(body, _) => count(body).saturating_add(1),
+    }
+}

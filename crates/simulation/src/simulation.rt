@@ -6,9 +6,9 @@ ghost use Rattle.simulation.specs.Private.Reading.{least_past};
 
 use crate::ends::{WordRange, has_word, last_end};
 use crate::gaps::first_gap;
-use crate::node::{Gaps, Node, begins_at_start, is_gap};
+use crate::node::{Gaps, Node, begins_at_start, count, is_gap};
 use crate::pack::pack;
-use crate::watch::{CalledOff, Watch};
+use crate::watch::{CalledOff, Pace, Watch};
 use ere::Ere;
 use std::alloc::{AllocError, Global};
 
@@ -28,6 +28,8 @@ pub struct Simulation {
     entered: Vec<u64>,
     // What has been read so far.
     cells: Vec<u64>,
+    // When it asks next whether the answer is still wanted.
+    pace: Pace,
 }
 
 impl Simulation {
@@ -47,12 +49,14 @@ impl Simulation {
     {
         let packed = pack(alloc, tree, 1)?;
         let at_start = begins_at_start(&packed.node);
+        let pace = Pace::of(count(&packed.node).saturating_add(packed.size));
         Ok(Simulation {
             node: packed.node,
             gaps: packed.gaps,
             at_start,
             entered: vec![in alloc; 0; packed.size]?,
             cells: vec![in alloc; 0; packed.size]?,
+            pace,
         })
     }
 
@@ -60,7 +64,7 @@ impl Simulation {
     ///
     /// The line can have any length. As far as is measured, the time for each of its bytes depends on the tree alone.
     ///
-    /// `watch` is asked each 65,536 bytes: `CalledOff` means that it said that the answer is not wanted.
+    /// `watch` is asked each 65,536 bytes, or more often: `CalledOff` means that it said that the answer is not wanted.
     pub fn matches<W: Watch>(&mut self, line: &[u8], watch: &mut W) -> Result<bool, CalledOff>
         requires { (tree : Tree) × IsSimulationOf tree self.old }
         ensures same { (tree : Tree) → IsSimulationOf tree self.old → IsSimulationOf tree self.new }
@@ -77,6 +81,7 @@ impl Simulation {
             all,
             &mut self.entered,
             &mut self.cells,
+            &mut self.pace,
             watch,
         )?;
         Ok(found)
@@ -89,7 +94,7 @@ impl Simulation {
     /// that could become one. The line can have any length. As far as is measured, the time for each of its bytes depends
     /// on the tree alone. Nothing is allocated.
     ///
-    /// `watch` is asked each 65,536 bytes: `CalledOff` means that it said that the answer is not wanted.
+    /// `watch` is asked each 65,536 bytes, or more often: `CalledOff` means that it said that the answer is not wanted.
     pub fn has_span<W: Watch>(
         &mut self,
         line: &[u8],
@@ -111,6 +116,7 @@ impl Simulation {
             block,
             &mut self.entered,
             &mut self.cells,
+            &mut self.pace,
             watch,
         )?;
         Ok(found)
@@ -123,7 +129,7 @@ impl Simulation {
     /// This is one pass over the line, from `start` on. It stops where no match is pending any more. The line can have any
     /// length. As far as is measured, the time for each of its bytes depends on the tree alone. Nothing is allocated.
     ///
-    /// `watch` is asked each 65,536 bytes: `CalledOff` means that it said that the answer is not wanted.
+    /// `watch` is asked each 65,536 bytes, or more often: `CalledOff` means that it said that the answer is not wanted.
     pub fn longest_end<W: Watch>(
         &mut self,
         line: &[u8],
@@ -147,6 +153,7 @@ impl Simulation {
             only,
             &mut self.entered,
             &mut self.cells,
+            &mut self.pace,
             watch,
         )?;
         Ok(found)

@@ -7,9 +7,10 @@ pub trait Watch {
     /// `wants` has said that the answer is not wanted.
     ghost has_said_no: { Self → Type 0 };
 
-    /// Whether the answer is still wanted. After `false` the search is given up. It is asked each 65,536 bytes of a pass over
-    /// a line, and by crate `search` before each name that is matched, before each document, at the next 64 KiB within one,
-    /// before each pass over a line that looks for a column or a span, and before each 64 KiB of text that is formed.
+    /// Whether the answer is still wanted. After `false` the search is given up. It is asked each 65,536 bytes that a simulation
+    /// reads, and more often where a byte takes it many steps; and by crate `search` before each name that is matched, before each
+    /// document, at the next 64 KiB within one, before each pass over a line that looks for a column or a span, and before each
+    /// 64 KiB of text that is formed.
     fn wants(&mut self) -> bool
         ensures { result ≡ false → has_said_no self.new };
 }
@@ -18,16 +19,44 @@ pub trait Watch {
 #[derive(Clone, Copy, Debug, PartialEq, Eq)]
 pub struct CalledOff;
 
-/// How many bytes of a line are read between two looks. No answer depends on it.
-const LOOK: usize = 65_536;
+/// How many steps lie between two looks at most, where a byte does not take more. They take some tenths of a millisecond. No answer depends
+/// on it.
+const STEPS: usize = 32_768;
 
-/// Asks whether the answer is still wanted, at the last byte of each piece of the line.
-#[inline(always)]
-pub(crate) fn look<W: Watch>(here: usize, watch: &mut W) -> Result<(), CalledOff>
-    ensures { IfErr result (λ _. W.has_said_no watch.new) }
-{
-    if here % LOOK == LOOK - 1 && !watch.wants() {
-        return Err(CalledOff);
+/// How many bytes are read between two looks at most.
+const MOST_BYTES: usize = 65_536;
+
+/// When a simulation asks next whether the answer is still wanted, over all the lines that it reads.
+#[derive(Clone, Copy, Debug, PartialEq, Eq)]
+pub struct Pace {
+    /// How many bytes are read between two looks.
+    pub(crate) each: usize,
+    /// How many bytes are left until the next one.
+    pub(crate) left: usize,
+}
+
+impl Pace {
+    /// The pace where a byte takes so many steps.
+    pub(crate) fn of(steps: usize) -> Pace {
+        let each = STEPS.checked_div(steps).unwrap_or(1);
+        let each = each.clamp(1, MOST_BYTES);
+        Pace { each, left: each }
     }
-    Ok(())
+
+    /// Asks whether the answer is still wanted, if it is time for that: a further byte is read.
+    #[inline(always)]
+    pub(crate) fn look<W: Watch>(&mut self, watch: &mut W) -> Result<(), CalledOff>
+        ensures { IfErr result (λ _. W.has_said_no watch.new) }
+    {
+        if self.left > 1 {
+            self.left -= 1;
+            return Ok(());
+        }
+        self.left = self.each;
+        if watch.wants() {
+            Ok(())
+        } else {
+            Err(CalledOff)
+        }
+    }
 }

@@ -91,7 +91,7 @@ module _ (Holds : List ℕ → List ℕ → Type 0) (limits : Limits) (readers :
           last_taken (inl here) = all_taken run before here
           last_taken (inr within) = earlier within.0 within.1
 
-  module _ (first : IsFirst readers from) (before : List Numbered) (search : Numbered) (front : List Entry) (entry : Entry)
+  module _ (first : IsFirst from) (before : List Numbered) (search : Numbered) (front : List Entry) (entry : Entry)
       (its : is_of (searches_among before + 1) entry ≡ true) where
     -- A search that has its entry was taken before.
     was_taken : {items : List Numbered} {entries : List Entry} {s : RunState} → Runs Holds limits readers from items entries s → items ≡ before
@@ -144,7 +144,7 @@ module _ (Holds : List ℕ → List ℕ → Type 0) (limits : Limits) (readers :
         by earlier at (inr one) =
             last_written earlier at (before_push es one.0 front entry back (ap (λ l. es ++ l) (sym one.1) ∙ sym are ∙ e'))
 
-  pub earlier_items : IsFirst readers from → {items : List Numbered} {entries : List Entry} {s : RunState}
+  pub earlier_items : IsFirst from → {items : List Numbered} {entries : List Entry} {s : RunState}
       → Runs Holds limits readers from items entries s → (before : List Numbered) (search : Numbered) (after : List Numbered)
       → items ≡ before ++ search ∷ after → (front : List Entry) (entry : Entry) (back : List Entry) → entries ≡ front ++ entry ∷ back
       → is_of (searches_among before + 1) entry ≡ true → Front before front

@@ -3,7 +3,7 @@ use Rattle.std.proofs.Common.{◌≡◌, ℕ, ◌+◌, ◌≤◌, Bool, true, fa
 use Rattle.index.specs.State.{State}
 use Rattle.index.specs.declared.lengths.Lengths.{Lengths}
 use Rattle.prepare.specs.Request.{Request}
-use Rattle.script.specs.Items.{Item, put, load, remove, publish, search, search_in, find, sync, cancel, status, bad_line, bad_put, truncated, body_not_closed}
+use Rattle.script.specs.Items.{Item, put, load, remove, remove_under, publish, search, search_in, find, sync, cancel, status, bad_line, bad_put, truncated, body_not_closed}
 use Rattle.transcript.specs.declared.entry.Entry.{Entry}
 use Rattle.transcript.specs.declared.entry.Entry.TheVariants.{Accepted, Refused, Published, Found, SearchRefused}
 use Rattle.transcript.specs.declared.entry.Reason.{Reason}
@@ -45,9 +45,9 @@ module _ (lengths : Lengths) (most : ℕ) (state : State) (line : ℕ) (item : I
   plain_loaded Holds path loaded (legal.failed none is) = refuses reason.CannotLoad is (λ e. cc)
   plain_loaded Holds path loaded (legal.loaded_body body some held with) = plain_body body with
 
-  plain_remove : (name : List ℕ) → IsRemove most state name line entry → IsPlain state.version line item entry
-  plain_remove name (legal.no_such_file none is) = refuses reason.NoSuchFile is (λ e. cc)
-  plain_remove name (legal.is_there some room) = plain_room room
+  plain_remove : (found : Bool) → IsRemove most state found line entry → IsPlain state.version line item entry
+  plain_remove found (legal.no_such_file none is) = refuses reason.NoSuchFile is (λ e. cc)
+  plain_remove found (legal.is_there some room) = plain_room room
 
   plain_publish : takes_memory item ≡ true → IsPublish state line entry → IsPlain state.version line item entry
   plain_publish takes (legal.published is) = publishes is
@@ -60,7 +60,9 @@ plain_entry Holds lengths most state loaded line (put name body) entry h =
 plain_entry Holds lengths most state loaded line (load name path) entry h =
     plain_named lengths most state line (load name path) entry name _ refl (plain_loaded lengths most state line (load name path) entry Holds path loaded) h
 plain_entry Holds lengths most state loaded line (remove name) entry h =
-    plain_named lengths most state line (remove name) entry name _ refl (plain_remove lengths most state line (remove name) entry name) h
+    plain_named lengths most state line (remove name) entry name _ refl (plain_remove lengths most state line (remove name) entry _) h
+plain_entry Holds lengths most state loaded line (remove_under prefix) entry h =
+    plain_named lengths most state line (remove_under prefix) entry prefix _ refl (plain_remove lengths most state line (remove_under prefix) entry _) h
 plain_entry Holds lengths most state loaded line publish entry h = plain_publish lengths most state line publish entry refl h
 plain_entry Holds lengths most state loaded line (search case text) entry h = absurd h
 plain_entry Holds lengths most state loaded line (search_in case name_text text) entry h = absurd h

@@ -18,7 +18,7 @@ use Rattle.steps.specs.LegalRows.{Limits, Context, HasEntry, IsLegalRow, IsSearc
 use Rattle.steps.specs.Asked.{Asks}
 use Rattle.steps.specs.Steps.{RunState, OpenSearch, latest, IsAnswerNow}
 use Rattle.steps.specs.StepRows.{with_its_entry, unless_of_search, unanswered, open_in, given_in, given_of, Rises}
-use Rattle.steps.specs.StepRows.{HasNoSync, Stands, legal, waits, AllTurned, IsNoted, AreRows}
+use Rattle.steps.specs.StepRows.{HasNoSync, Stands, legal, waits, AllTurned, AreRows}
 use Rattle.steps.proofs.RowLemmas.{unanswered-append, given_of-append, same_commands, same_published, same_searches, later_commands}
 use Rattle.steps.proofs.RowLemmas.{later_published, published_in-append, published_in-none, published_in-quiet, IsPlace, here, earlier, later, place_of, last_or-append}
 use Rattle.steps.proofs.RowLemmas.{rises_front, rises_rest, rises_last, rises_contains, sync_later}
@@ -60,9 +60,8 @@ pub record IsFilled (Holds : List ℕ → List ℕ → Type 0) (limits : Limits)
   pub published : s'.published ≡ s.published
   pub searches : s'.searches ≡ s.searches
   pub awaited : s'.awaited ≡ front ++ back
-  pub readers_count : length s'.lasts ≡ readers + 1
   pub turns : AllTurned (given_of before ++ (given_in (Some entry) ++ given_of after))
-  pub noted : AllByRecursion (IsNoted s'.lasts) (given_of before ++ (given_in (Some entry) ++ given_of after))
+  pub noted : AllByRecursion (Contains s'.answers) (given_of before ++ (given_in (Some entry) ++ given_of after))
 
 -- A search between these rows may be refused for this reason, whatever rows follow.
 abbrev pub MayBeRefused : Limits → ℕ → List Row → List Row → SearchReason → Type 0
@@ -138,10 +137,9 @@ module _ (Holds : List ℕ → List ℕ → Type 0) (limits : Limits) (readers :
       within = omega (arith, are.within, ap (last_or 0) fill.published, ap length fill.accepted);
       searches = fill.searches ∙ are.searches ∙ same_searches rows (at.before ++ with_its_entry entry at.row ∷ at.after) same;
       awaited = fill.awaited ∙ sym open_filled;
-      readers_count = fill.readers_count;
       stand = stand_filled;
       turns = subst AllTurned (sym given_filled) fill.turns;
-      noted = subst (AllByRecursion (IsNoted s'.lasts)) (sym given_filled) fill.noted;
+      noted = subst (AllByRecursion (Contains s'.answers)) (sym given_filled) fill.noted;
     }
 
   -- The number of the search, wherever its row stands.
@@ -167,7 +165,7 @@ module _ (Holds : List ℕ → List ℕ → Type 0) (limits : Limits) (readers :
   seen version (inr inside) = rises_contains 0 s.published version are.rises inside
 
   -- An answer that is given now, in the rows of a run that has gone on.
-  module _ (reader turn : ℕ) (answer : Shown) (now : IsAnswerNow s search reader turn answer) (before' after' more : List Row)
+  module _ (reader turn : ℕ) (answer : Shown) (now : IsAnswerNow readers s search reader turn answer) (before' after' more : List Row)
       (e : unanswered before' ≡ unanswered at.before) (e' : unanswered after' ≡ unanswered at.after ++ more)
       (rises : Rises 0 (published_in (before' ++ with_its_entry (Found search.number reader turn answer) at.row ∷ after'))) where
     abbrev entry : Entry
@@ -247,7 +245,7 @@ module _ (Holds : List ℕ → List ℕ → Type 0) (limits : Limits) (readers :
           subst (λ c. IsShownOf (state_of c) now.request answer)
           (sym (ap (take answer.version) commands
           ∙ take-append-le answer.version s.accepted (commands_of more) (omega (arith, seen answer.version now.published, are.within)))) now.exact;
-      one_of_them = omega (arith, now.one_of_them, are.readers_count);
+      one_of_them = now.one_of_them;
       not_newer = newest (readers == 0) refl;
     }
 
@@ -257,6 +255,6 @@ module _ (Holds : List ℕ → List ℕ → Type 0) (limits : Limits) (readers :
         (legal_search Holds limits context at.row.numbered.item (Found (search_number context) reader turn answer) now.request
         (subst (λ i. Asks i now.request) (ap (λ x. x.item) at.is) now.asks) (found reader turn answer refl is_answered))
 
-  pub answer_stands : (reader turn : ℕ) (answer : Shown) → IsAnswerNow s search reader turn answer
+  pub answer_stands : (reader turn : ℕ) (answer : Shown) → IsAnswerNow readers s search reader turn answer
       → Stands Holds limits readers (unanswered at.before) (with_its_entry (Found search.number reader turn answer) at.row) (unanswered at.after)
   answer_stands reader turn answer now = legal (answer_legal reader turn answer now)

@@ -5,7 +5,7 @@ use Rattle.std.proofs.lemmas.List.Sums.{sum_by-append}
 use Rattle.std.proofs.lemmas.Bool.Decides.{eqb_tells}
 use Rattle.std.specs.List.{AllByRecursion}
 use Rattle.std.proofs.lemmas.List.{append-nil}
-use Rattle.std.proofs.lemmas.List.Elements.{Contains-push_cases}
+use Rattle.std.proofs.lemmas.List.Elements.{All-contains, Contains-append_left, Contains-push, Contains-push_cases}
 use Rattle.std.proofs.lemmas.Grind.{flat_map-append}
 use Rattle.index.specs.State.{state_of}
 use Rattle.views.specs.Shown.{Shown}
@@ -17,42 +17,39 @@ use Rattle.transcript.specs.declared.entry.SearchReason.{SearchReason}
 use Rattle.transcript.specs.declared.entry.SearchReason.TheVariants as search_reason
 use Rattle.steps.specs.Rows.{version_in, last_or, searches_of}
 use Rattle.steps.specs.LegalRows.{Limits}
-use Rattle.steps.specs.Steps.{RunState, OpenSearch, IsStep, Runs, IsFirst, IsOpenAt, IsAnswerNow, latest, with_search, asked, without, status_now}
+use Rattle.steps.specs.Steps.{RunState, OpenSearch, IsStep, Runs, IsFirst, IsOpenAt, IsAnswerNow, Given, AreTurned, given, latest, with_search, asked, without, status_now}
 use Rattle.steps.specs.Steps as steps
-use Rattle.steps.specs.StepRows.{Given, given_in, IsNoted}
+use Rattle.steps.specs.StepRows.{given_in}
 use Rattle.steps.specs.Entries.{versions_of, searches_among, IsInOrder}
 use Rattle.steps.proofs.RowLemmas.{not_empty, split_push}
 use Rattle.steps.proofs.OpenLemmas.{around}
-use Rattle.steps.proofs.TurnLemmas.{still_noted, now_noted, each_within, each_without, each_both}
+use Rattle.steps.proofs.TurnLemmas.{each_within, each_without, each_both}
 use Rattle.steps.proofs.EntryLemmas.{plain_entry, plain_by, sync_is_no_search}
 use Rattle.steps.proofs.RunLemmas.{runs_keep}
 use Rattle.steps.proofs.WrittenLemmas.{AreCounted, run_counted}
-
-abbrev given : ℕ → ℕ → Shown → Given
-given reader turn answer = record { reader = reader; turn = turn; version = answer.version }
 
 -- What the entries so far say of versions and answers.
 record AreInOrder (entries : List Entry) (s : RunState) : Type 0 where
   pub published : s.published ≡ versions_of entries
   pub noted : (number reader turn : ℕ) (answer : Shown) → Contains entries (Found number reader turn answer)
-      → IsNoted s.lasts (record { reader = reader; turn = turn; version = answer.version })
+      → Contains s.answers (given reader turn answer.version)
   pub each : (before : List Entry) (number reader turn : ℕ) (answer : Shown) (after : List Entry)
       → entries ≡ before ++ Found number reader turn answer ∷ after → IsInOrder before reader turn answer
 
 -- One more entry.
 record IsNextEntry (entries : List Entry) (s : RunState) (entry : Entry) (s' : RunState) : Type 0 where
   pub published : s'.published ≡ s.published ++ version_in (Some entry)
-  pub still : (x : Given) → IsNoted s.lasts x → IsNoted s'.lasts x
+  pub still : (x : Given) → Contains s.answers x → Contains s'.answers x
   pub now : (number reader turn : ℕ) (answer : Shown) → entry ≡ Found number reader turn answer
-      → IsNoted s'.lasts (record { reader = reader; turn = turn; version = answer.version }) × IsInOrder entries reader turn answer
+      → Contains s'.answers (given reader turn answer.version) × IsInOrder entries reader turn answer
 
 module _ (entries : List Entry) (s : RunState) (old : AreInOrder entries s) where
-  order_stays : (written : List Entry) (s' : RunState) → written ≡ [] → s'.published ≡ s.published → s'.lasts ≡ s.lasts → AreInOrder (entries ++ written) s'
-  order_stays written s' nothing same same_lasts =
+  order_stays : (written : List Entry) (s' : RunState) → written ≡ [] → s'.published ≡ s.published → s'.answers ≡ s.answers → AreInOrder (entries ++ written) s'
+  order_stays written s' nothing same same_answers =
       let is : entries ++ written ≡ entries = ap (λ w. entries ++ w) nothing ∙ append-nil entries in
       subst (λ e. AreInOrder e s') (sym is) (record {
         published = same ∙ old.published;
-        noted = λ number reader turn answer inside. subst (λ l. IsNoted l (given reader turn answer)) (sym same_lasts) (old.noted number reader turn answer inside);
+        noted = λ number reader turn answer inside. subst (λ l. Contains l (given reader turn answer.version)) (sym same_answers) (old.noted number reader turn answer inside);
         each = old.each;
       })
 
@@ -71,8 +68,8 @@ module _ (entries : List Entry) (s : RunState) (old : AreInOrder entries s) wher
       })
     where
       noted_by : (number reader turn : ℕ) (answer : Shown)
-          → Contains entries (Found number reader turn answer) ⊎ (entry ≡ Found number reader turn answer) → IsNoted s'.lasts (given reader turn answer)
-      noted_by number reader turn answer (inl inside) = next.still (given reader turn answer) (old.noted number reader turn answer inside)
+          → Contains entries (Found number reader turn answer) ⊎ (entry ≡ Found number reader turn answer) → Contains s'.answers (given reader turn answer.version)
+      noted_by number reader turn answer (inl inside) = next.still (given reader turn answer.version) (old.noted number reader turn answer inside)
       noted_by number reader turn answer (inr is) = (next.now number reader turn answer is).0
 
       each_by : (before : List Entry) (number reader turn : ℕ) (answer : Shown) {after : List Entry}
@@ -84,46 +81,45 @@ module _ (entries : List Entry) (s : RunState) (old : AreInOrder entries s) wher
       each_by before number reader turn answer (inr within) = old.each before number reader turn answer within.0 within.1
 
   -- an entry that is no answer
-  quiet_entry : (entry : Entry) (s' : RunState) → given_in (Some entry) ≡ [] → s'.published ≡ s.published ++ version_in (Some entry) → s'.lasts ≡ s.lasts
+  quiet_entry : (entry : Entry) (s' : RunState) → given_in (Some entry) ≡ [] → s'.published ≡ s.published ++ version_in (Some entry) → s'.answers ≡ s.answers
       → IsNextEntry entries s entry s'
   quiet_entry entry s' quiet publishes same = record {
     published = publishes;
-    still = λ x noted. subst (λ l. IsNoted l x) (sym same) noted;
+    still = λ x noted. subst (λ l. Contains l x) (sym same) noted;
     now = λ number reader turn answer is. let no = sym quiet ∙ ap (λ e. given_in (Some e)) is in absurd (cc);
   }
 
-  answer_entry : (search : OpenSearch) (reader turn : ℕ) (answer : Shown) (s' : RunState) → IsAnswerNow s search reader turn answer
-      → s'.published ≡ s.published → s'.lasts ≡ (steps.with_answer reader turn answer.version s).lasts
+  answer_entry : (readers : ℕ) (search : OpenSearch) (reader turn : ℕ) (answer : Shown) (s' : RunState) → IsAnswerNow readers s search reader turn answer
+      → s'.published ≡ s.published → s'.answers ≡ s.answers ++ given reader turn answer.version ∷ []
       → IsNextEntry entries s (Found search.number reader turn answer) s'
-  answer_entry search reader turn answer s' now same noted_now = record {
+  answer_entry readers search reader turn answer s' now same noted_now = record {
     published = same ∙ sym (append-nil s.published);
     still = λ x noted.
-        subst (λ l. IsNoted l x) (sym noted_now) (still_noted s.lasts (given reader turn answer) now.one_of_them now.later now.no_fall x noted);
+        subst (λ l. Contains l x) (sym noted_now) (Contains-append_left s.answers (given reader turn answer.version ∷ []) x noted);
     now = λ number reader' turn' answer' is. now_by number reader' turn' answer' (cc) (cc) (cc);
   }
     where
       now_by : (number reader' turn' : ℕ) (answer' : Shown) → reader ≡ reader' → turn ≡ turn' → answer ≡ answer'
-          → IsNoted s'.lasts (given reader' turn' answer') × IsInOrder entries reader' turn' answer'
+          → Contains s'.answers (given reader' turn' answer'.version) × IsInOrder entries reader' turn' answer'
       now_by number reader' turn' answer' same_reader same_turn same_answer =
-          subst (λ r. IsNoted s'.lasts (given r turn' answer') × IsInOrder entries r turn' answer') same_reader
-          (subst (λ t. IsNoted s'.lasts (given reader t answer') × IsInOrder entries reader t answer') same_turn
-          (subst (λ a. IsNoted s'.lasts (given reader turn a) × IsInOrder entries reader turn a) same_answer (
-            subst (λ l. IsNoted l (given reader turn answer)) (sym noted_now)
-                (now_noted s.lasts (given reader turn answer) now.one_of_them now.later now.no_fall),
+          subst (λ r. Contains s'.answers (given r turn' answer'.version) × IsInOrder entries r turn' answer') same_reader
+          (subst (λ t. Contains s'.answers (given reader t answer'.version) × IsInOrder entries reader t answer') same_turn
+          (subst (λ a. Contains s'.answers (given reader turn a.version) × IsInOrder entries reader turn a) same_answer (
+            subst (λ l. Contains l (given reader turn answer.version)) (sym noted_now) (Contains-push s.answers (given reader turn answer.version)),
             record {
               published = subst (λ l. (answer.version ≡ 0) ⊎ Contains l answer.version) old.published now.published;
-              later = λ number'' turn'' answer'' inside.
-                  let noted = old.noted number'' reader turn'' answer'' inside in
-                  (omega (arith, noted.turn, now.later), omega (arith, noted.version, now.no_fall));
+              in_turn = λ number'' turn'' answer'' inside.
+                  All-contains (λ y. AreTurned y (given reader turn answer.version)) s.answers (given reader turn'' answer''.version) now.in_turn
+                  (old.noted number'' reader turn'' answer'' inside) refl;
             },
           )))
 
   -- an entry that is no answer and publishes nothing, and leaves the readers as they are
   order_quiet : (entry : Entry) (written : List Entry) (s' : RunState) → written ≡ entry ∷ [] → given_in (Some entry) ≡ [] → version_in (Some entry) ≡ []
-      → s'.published ≡ s.published → s'.lasts ≡ s.lasts → AreInOrder (entries ++ written) s'
-  order_quiet entry written s' writes gives publishes same same_lasts =
+      → s'.published ≡ s.published → s'.answers ≡ s.answers → AreInOrder (entries ++ written) s'
+  order_quiet entry written s' writes gives publishes same same_answers =
       order_push entry written s' writes
-      (quiet_entry entry s' gives (same ∙ sym (append-nil s.published) ∙ ap (λ l. s.published ++ l) (sym publishes)) same_lasts)
+      (quiet_entry entry s' gives (same ∙ sym (append-nil s.published) ∙ ap (λ l. s.published ++ l) (sym publishes)) same_answers)
 
   order_step : (Holds : List ℕ → List ℕ → Type 0) (limits : Limits) (readers : ℕ) (taken : List Numbered) (written : List Entry) (s' : RunState)
       → IsStep Holds limits readers s taken written s' → AreInOrder (entries ++ written) s'
@@ -131,33 +127,33 @@ module _ (entries : List Entry) (s : RunState) (old : AreInOrder entries s) wher
       order_push entry written s' writes
       (quiet_entry entry s'
       (plain_by (plain_entry Holds limits.lengths limits.commands (state_of s.accepted) loaded item.line item.item entry h) (λ e. given_in (Some e) ≡ []) (λ count. refl)
-      (λ why. refl) refl) (ap (λ t. t.published) same) (ap (λ t. t.lasts) same))
+      (λ why. refl) refl) (ap (λ t. t.published) same) (ap (λ t. t.answers) same))
   order_step Holds limits readers taken written s' (steps.asked_for item request may asks takes writes same) =
-      order_stays written s' writes (ap (λ t. t.published) same) (ap (λ t. t.lasts) same)
+      order_stays written s' writes (ap (λ t. t.published) same) (ap (λ t. t.answers) same)
   order_step Holds limits readers taken written s' (steps.refused item why may fault takes writes same) =
-      order_quiet (SearchRefused (s.searches + 1) why) written s' writes refl refl (ap (λ t. t.published) same) (ap (λ t. t.lasts) same)
+      order_quiet (SearchRefused (s.searches + 1) why) written s' writes refl refl (ap (λ t. t.published) same) (ap (λ t. t.answers) same)
   order_step Holds limits readers taken written s' (steps.answered place search reader turn answer is_open now takes writes same) =
       order_push (Found search.number reader turn answer) written s' writes
-      (answer_entry search reader turn answer s' now (ap (λ t. t.published) same) (ap (λ t. t.lasts) same))
+      (answer_entry readers search reader turn answer s' now (ap (λ t. t.published) same) (ap (λ t. t.answers) same))
   order_step Holds limits readers taken written s' (steps.not_answered place search is_open takes writes same) =
-      order_quiet (SearchRefused search.number search_reason.OutOfMemory) written s' writes refl refl (ap (λ t. t.published) same) (ap (λ t. t.lasts) same)
+      order_quiet (SearchRefused search.number search_reason.OutOfMemory) written s' writes refl refl (ap (λ t. t.published) same) (ap (λ t. t.answers) same)
   order_step Holds limits readers taken written s' (steps.too_slow place search timed is_open takes writes same) =
-      order_quiet (SearchRefused search.number search_reason.TooSlow) written s' writes refl refl (ap (λ t. t.published) same) (ap (λ t. t.lasts) same)
+      order_quiet (SearchRefused search.number search_reason.TooSlow) written s' writes refl refl (ap (λ t. t.published) same) (ap (λ t. t.answers) same)
   order_step Holds limits readers taken written s' (steps.cancelled item place search may is is_open takes writes same) =
-      order_quiet (SearchRefused search.number search_reason.Cancelled) written s' writes refl refl (ap (λ t. t.published) same) (ap (λ t. t.lasts) same)
+      order_quiet (SearchRefused search.number search_reason.Cancelled) written s' writes refl refl (ap (λ t. t.published) same) (ap (λ t. t.answers) same)
   order_step Holds limits readers taken written s' (steps.too_late item number may is was_asked not_open takes writes same) =
-      order_stays written s' writes (ap (λ t. t.published) same) (ap (λ t. t.lasts) same)
+      order_stays written s' writes (ap (λ t. t.published) same) (ap (λ t. t.answers) same)
   order_step Holds limits readers taken written s' (steps.no_such_search item number may is not_asked takes writes same) =
-      order_quiet (Refused item.line NoSuchSearch) written s' writes refl refl (ap (λ t. t.published) same) (ap (λ t. t.lasts) same)
+      order_quiet (Refused item.line NoSuchSearch) written s' writes refl refl (ap (λ t. t.published) same) (ap (λ t. t.answers) same)
   order_step Holds limits readers taken written s' (steps.reported item may is takes writes same) =
-      order_quiet (status_now limits s item.line) written s' writes refl refl (ap (λ t. t.published) same) (ap (λ t. t.lasts) same)
+      order_quiet (status_now limits s item.line) written s' writes refl refl (ap (λ t. t.published) same) (ap (λ t. t.answers) same)
   order_step Holds limits readers taken written s' (steps.sync item is empty takes writes same) =
-      order_stays written s' writes (ap (λ t. t.published) same) (ap (λ t. t.lasts) same)
+      order_stays written s' writes (ap (λ t. t.published) same) (ap (λ t. t.answers) same)
 
 no_entry : (entry : Entry) → Contains [] entry → ⊥
 no_entry entry inside = omega (arith, inside.1)
 
-run_order : (Holds : List ℕ → List ℕ → Type 0) (limits : Limits) (readers : ℕ) (from : RunState) → IsFirst readers from → {items : List Numbered}
+run_order : (Holds : List ℕ → List ℕ → Type 0) (limits : Limits) (readers : ℕ) (from : RunState) → IsFirst from → {items : List Numbered}
     {entries : List Entry} {s : RunState} → Runs Holds limits readers from items entries s → AreInOrder entries s
 run_order Holds limits readers from first =
     runs_keep Holds limits readers from (λ items entries s. AreInOrder entries s)
@@ -169,13 +165,13 @@ run_order Holds limits readers from first =
     (λ items entries s taken written s' old step. order_step entries s old Holds limits readers taken written s' step)
 
 -- Each answer of a run is in order.
-pub answers_in_order : (Holds : List ℕ → List ℕ → Type 0) (limits : Limits) (readers : ℕ) (from : RunState) → IsFirst readers from → {items : List Numbered}
+pub answers_in_order : (Holds : List ℕ → List ℕ → Type 0) (limits : Limits) (readers : ℕ) (from : RunState) → IsFirst from → {items : List Numbered}
     {entries : List Entry} {s : RunState} → Runs Holds limits readers from items entries s
     → (before : List Entry) (number reader turn : ℕ) (answer : Shown) (after : List Entry)
     → entries ≡ before ++ Found number reader turn answer ∷ after → IsInOrder before reader turn answer
 answers_in_order Holds limits readers from first run = (run_order Holds limits readers from first run).each
 
-pub run_versions : (Holds : List ℕ → List ℕ → Type 0) (limits : Limits) (readers : ℕ) (from : RunState) → IsFirst readers from → {items : List Numbered}
+pub run_versions : (Holds : List ℕ → List ℕ → Type 0) (limits : Limits) (readers : ℕ) (from : RunState) → IsFirst from → {items : List Numbered}
     {entries : List Entry} {s : RunState} → Runs Holds limits readers from items entries s → s.published ≡ versions_of entries
 run_versions Holds limits readers from first run = (run_order Holds limits readers from first run).published
 
@@ -316,7 +312,7 @@ module _ (Holds : List ℕ → List ℕ → Type 0) (limits : Limits) (readers :
       let same_item : other ≡ item = cc in
       absurd (omega (arith, one, sync_is_no_search other.item also, ap (λ i. searches_of i.item) same_item))
 
-  pub not_older : (from : RunState) → IsFirst readers from → {items : List Numbered} {entries : List Entry} {s : RunState}
+  pub not_older : (from : RunState) → IsFirst from → {items : List Numbered} {entries : List Entry} {s : RunState}
       → Runs Holds limits readers from items entries s → (search : Numbered) (s' : RunState) → searches_of search.item ≡ 1
       → IsStep Holds limits readers s (search ∷ []) [] s' → {items' : List Numbered} {entries' : List Entry} {s'' : RunState}
       → Runs Holds limits readers s' items' entries' s'' → (reader turn : ℕ) (answer : Shown)

@@ -1,12 +1,12 @@
 -- The rows of a run with one more row at their end.
 use Rattle.std.proofs.Common.{◌≡◌, ℕ, ◌+◌, ◌≤◌, ◌<◌, ◌⊎◌, inl, inr, false, List, [], ◌∷◌, ◌++◌, None, length, sym, ap, ◌∙◌, subst, arith}
 use Rattle.std.proofs.Common.{append_assoc, length-append}
-use Rattle.std.specs.List.{AllByRecursion}
+use Rattle.std.specs.List.{AllByRecursion, Contains}
 use Rattle.std.proofs.lemmas.List.{append-nil}
 use Rattle.steps.specs.Rows.{Row, accepted_by, command_of, version_in, published_in, last_or, is_sync, searches_of, count_searches}
 use Rattle.steps.specs.LegalRows.{Limits}
 use Rattle.steps.specs.Steps.{RunState, latest}
-use Rattle.steps.specs.StepRows.{HasOwnEntry, unanswered, open_of, open_in, given_in, given_of, Rises, Stands, legal, waits, AllTurned, IsNoted, AreRows}
+use Rattle.steps.specs.StepRows.{HasOwnEntry, unanswered, open_of, open_in, given_in, given_of, Rises, Stands, legal, waits, AllTurned, AreRows}
 use Rattle.steps.proofs.RowLemmas.{unanswered-append, given_of-append, commands_of-push, published_in-push, count_searches-push, split_push}
 use Rattle.steps.proofs.RowLemmas.{last_or-append, rises_append, no_sync_push}
 use Rattle.steps.proofs.OpenLemmas.{open_in-append, no_open}
@@ -22,7 +22,7 @@ pub record IsPushed (Holds : List ℕ → List ℕ → Type 0) (limits : Limits)
   pub within : last_or (latest s) (version_in row.entry) ≤ length s.accepted
   pub searches : s'.searches ≡ s.searches + searches_of row.numbered.item
   pub awaited : s'.awaited ≡ s.awaited ++ open_of s.searches (latest s) row.numbered.item row.entry
-  pub lasts : s'.lasts ≡ s.lasts
+  pub answers : s'.answers ≡ s.answers
   pub given : given_in row.entry ≡ []
   pub own : HasOwnEntry row
 
@@ -91,10 +91,9 @@ module _ (Holds : List ℕ → List ℕ → Type 0) (limits : Limits) (readers :
         );
     searches = omega (arith, push.searches, are.searches, count_searches-push rows row);
     awaited = open_push;
-    readers_count = ap length push.lasts ∙ are.readers_count;
     stand = stand_push;
     turns = subst AllTurned (sym same_given) are.turns;
     noted =
-        subst (λ l. AllByRecursion (IsNoted l) (given_of (rows ++ row ∷ []))) (sym push.lasts)
-        (subst (AllByRecursion (IsNoted s.lasts)) (sym same_given) are.noted);
+        subst (λ l. AllByRecursion (Contains l) (given_of (rows ++ row ∷ []))) (sym push.answers)
+        (subst (AllByRecursion (Contains s.answers)) (sym same_given) are.noted);
   }

@@ -147,7 +147,7 @@ pub record AreRowsOf (Holds : List ℕ → List ℕ → Type 0) (limits : Limits
   pub same_entries : IsPermutation (entries_of rows) entries
   pub in_order : readers ≡ 0 → entries_of rows ≡ entries
 
-pub steps_have_rows : (Holds : List ℕ → List ℕ → Type 0) (limits : Limits) (readers : ℕ) (from : RunState) → IsFirst readers from
+pub steps_have_rows : (Holds : List ℕ → List ℕ → Type 0) (limits : Limits) (readers : ℕ) (from : RunState) → IsFirst from
     → {items : List Numbered} {entries : List Entry} {s : RunState} → Runs Holds limits readers from items entries s
     → AreRowsOf Holds limits readers items entries s
 steps_have_rows Holds limits readers from first =

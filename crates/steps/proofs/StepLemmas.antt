@@ -1,7 +1,7 @@
 -- A step's rows, and that rows are legal once no search is open.
 use Rattle.std.proofs.Common.{◌≡◌, ℕ, ◌+◌, ◌<◌, ◌⊎◌, inl, inr, true, false, List, [], ◌∷◌, ◌++◌, Option, Some, None, length, take, drop, refl, sym, ap}
-use Rattle.std.proofs.Common.{◌∙◌, ◌≤◌, subst, arith, length-set, slice_get}
-use Rattle.std.specs.List.{AllByRecursion}
+use Rattle.std.proofs.Common.{◌∙◌, ◌≤◌, subst, arith, slice_get}
+use Rattle.std.specs.List.{AllByRecursion, Contains}
 use Rattle.std.proofs.lemmas.List.{append-nil}
 use Rattle.index.specs.State.{state_of}
 use Rattle.prepare.specs.Request.{Request}
@@ -19,10 +19,10 @@ use Rattle.steps.specs.LegalRows.{status_entry}
 use Rattle.steps.specs.LegalRows as searched
 use Rattle.steps.specs.Asked.{Asks, IsFaultOf}
 use Rattle.steps.specs.Steps.{RunState, OpenSearch, IsStep, IsFirst, IsOpenAt, IsAnswerNow, MayTake, latest, with_entry, with_search, counted}
-use Rattle.steps.specs.Steps.{without, with_answer, last, status_now}
+use Rattle.steps.specs.Steps.{without, with_answer, given, status_now}
 use Rattle.steps.specs.Steps as steps
-use Rattle.steps.specs.StepRows.{AreNext, HasOwnEntry, searches_in, more, filled, both, IsOfSearch, found, refused, with_its_entry, unanswered, given_of, given_in, Given, Stands, legal}
-use Rattle.steps.specs.StepRows.{waits, AllTurned, IsNoted, AreRows, Rises}
+use Rattle.steps.specs.StepRows.{AreNext, HasOwnEntry, searches_in, more, filled, both, IsOfSearch, found, refused, with_its_entry, unanswered, given_of, given_in, Stands, legal}
+use Rattle.steps.specs.StepRows.{waits, AllTurned, AreRows, Rises}
 use Rattle.steps.proofs.RowLemmas.{not_empty, same_commands, same_published, same_searches, count_searches-append, split_push, has_cancel, cancel_stays}
 use Rattle.steps.proofs.OpenLemmas.{open_few, open_one, open_none, open_no_search, IsOpenRow, open_row, around, no_open}
 use Rattle.steps.proofs.TurnLemmas.{turned_more, noted_more, rows_in_turn}
@@ -32,7 +32,7 @@ use Rattle.steps.proofs.PushLemmas.{IsPushed, rows_pushed}
 use Rattle.steps.proofs.FillLemmas.{IsFilled, MayBeRefused, rows_filled, given_without, number_is, waiting, refusal_stands, answer_stands}
 
 -- Before the first item there are no rows.
-pub first_rows : (Holds : List ℕ → List ℕ → Type 0) (limits : Limits) (readers : ℕ) (s : RunState) → IsFirst readers s → AreRows Holds limits readers s []
+pub first_rows : (Holds : List ℕ → List ℕ → Type 0) (limits : Limits) (readers : ℕ) (s : RunState) → IsFirst s → AreRows Holds limits readers s []
 unfolding commands_of published_in count_searches
 first_rows Holds limits readers s first = record {
   accepted = first.accepted;
@@ -41,7 +41,6 @@ first_rows Holds limits readers s first = record {
   within = omega (arith, ap (last_or 0) first.published);
   searches = first.searches;
   awaited = first.awaited;
-  readers_count = first.count;
   stand = λ before row after e. absurd (not_empty before row after e);
   turns = tt;
   noted = tt;
@@ -95,7 +94,7 @@ module _ (Holds : List ℕ → List ℕ → Type 0) (limits : Limits) (readers :
         awaited =
             ap (λ t. t.awaited) same ∙ sym (append-nil s.awaited)
             ∙ ap (λ l. s.awaited ++ l) (sym (open_none s.searches (latest s) item.item entry));
-        lasts = ap (λ t. t.lasts) same;
+        answers = ap (λ t. t.answers) same;
         given = plain_by plain (λ e. given_in (Some e) ≡ []) (λ count. refl) (λ why. refl) refl;
         own =
             own_entry (row_of item loaded (Some entry)) entry refl
@@ -116,7 +115,7 @@ module _ (Holds : List ℕ → List ℕ → Type 0) (limits : Limits) (readers :
         within = are.within;
         searches = omega (arith, ap (λ t. t.searches) same, one);
         awaited = ap (λ t. t.awaited) same ∙ ap (λ l. s.awaited ++ l) (sym (open_one s.searches (latest s) item.item one));
-        lasts = ap (λ t. t.lasts) same;
+        answers = ap (λ t. t.answers) same;
         given = refl;
         own = λ entry is. cc;
       }
@@ -140,7 +139,7 @@ module _ (Holds : List ℕ → List ℕ → Type 0) (limits : Limits) (readers :
         awaited =
             ap (λ t. t.awaited) same ∙ sym (append-nil s.awaited)
             ∙ ap (λ l. s.awaited ++ l) (sym (open_none s.searches (latest s) item.item (SearchRefused (s.searches + 1) why)));
-        lasts = ap (λ t. t.lasts) same;
+        answers = ap (λ t. t.answers) same;
         given = refl;
         own = own_entry row (SearchRefused (s.searches + 1) why) refl (sym (fault_is_of_search item.item why fault));
       }
@@ -166,7 +165,7 @@ module _ (Holds : List ℕ → List ℕ → Type 0) (limits : Limits) (readers :
     awaited =
         ap (λ t. t.awaited) same ∙ sym (append-nil s.awaited)
         ∙ ap (λ l. s.awaited ++ l) (sym (open_no_search s.searches (latest s) item.item entry no_search));
-    lasts = ap (λ t. t.lasts) same;
+    answers = ap (λ t. t.answers) same;
     given = gives;
     own = λ e is. none e is ∙ sym no_search;
   }
@@ -258,9 +257,9 @@ module _ (Holds : List ℕ → List ℕ → Type 0) (limits : Limits) (readers :
     turned_so_far =
         subst AllTurned (given_without Holds limits readers s rows (take place s.awaited) search (drop (place + 1) s.awaited) are at) are.turns
 
-    noted_so_far : AllByRecursion (IsNoted s.lasts) (given_of at.before ++ given_of at.after)
+    noted_so_far : AllByRecursion (Contains s.answers) (given_of at.before ++ given_of at.after)
     noted_so_far =
-        subst (AllByRecursion (IsNoted s.lasts))
+        subst (AllByRecursion (Contains s.answers))
         (given_without Holds limits readers s rows (take place s.awaited) search (drop (place + 1) s.awaited) are at) are.noted
 
     refusal : (why : SearchReason) (s' : RunState) → s' ≡ without place s → MayBeRefused limits readers at.before at.after why
@@ -273,9 +272,8 @@ module _ (Holds : List ℕ → List ℕ → Type 0) (limits : Limits) (readers :
       published = ap (λ t. t.published) same;
       searches = ap (λ t. t.searches) same;
       awaited = ap (λ t. t.awaited) same;
-      readers_count = ap (λ t. length t.lasts) same ∙ are.readers_count;
       turns = turned_so_far;
-      noted = subst (λ l. AllByRecursion (IsNoted l) (given_of at.before ++ given_of at.after)) (sym (ap (λ t. t.lasts) same)) noted_so_far;
+      noted = subst (λ l. AllByRecursion (Contains l) (given_of at.before ++ given_of at.after)) (sym (ap (λ t. t.answers) same)) noted_so_far;
     }
 
     refusal_of : (why : SearchReason) (number : ℕ) → search.number ≡ number → IsOfSearch number (SearchRefused search.number why)
@@ -298,10 +296,10 @@ module _ (Holds : List ℕ → List ℕ → Type 0) (limits : Limits) (readers :
         filled_by (SearchRefused search.number why) s' taken written takes writes (refusal_of why) (refusal why s' same may)
 
     is_answered : (reader turn : ℕ) (answer : Shown) (s' : RunState) (taken : List Numbered) (written : List Entry)
-        → IsAnswerNow s search reader turn answer → taken ≡ [] → written ≡ Found search.number reader turn answer ∷ []
-        → s' ≡ without place (with_answer reader turn answer.version s) → NextRows Holds limits readers rows taken written s'
+        → IsAnswerNow readers s search reader turn answer → taken ≡ [] → written ≡ Found search.number reader turn answer ∷ []
+        → s' ≡ without place (with_answer (given reader turn answer.version) s) → NextRows Holds limits readers rows taken written s'
     is_answered reader turn answer s' taken written now takes writes same =
-        let x : Given = record { reader = reader; turn = turn; version = answer.version } in
+        let x = given reader turn answer.version in
         filled_by (Found search.number reader turn answer) s' taken written takes writes
         (λ number is. subst (λ n. IsOfSearch number (Found n reader turn answer)) (sym is) (found reader turn answer)) (record {
           of_search = refl;
@@ -310,11 +308,10 @@ module _ (Holds : List ℕ → List ℕ → Type 0) (limits : Limits) (readers :
           published = ap (λ t. t.published) same;
           searches = ap (λ t. t.searches) same;
           awaited = ap (λ t. t.awaited) same;
-          readers_count = ap (λ t. length t.lasts) same ∙ length-set s.lasts reader (last turn answer.version) ∙ are.readers_count;
-          turns = turned_more s.lasts x now.one_of_them now.later now.no_fall (given_of at.before) (given_of at.after) turned_so_far noted_so_far;
+          turns = turned_more s.answers x now.in_turn (given_of at.before) (given_of at.after) turned_so_far noted_so_far;
           noted =
-              subst (λ l. AllByRecursion (IsNoted l) (given_of at.before ++ x ∷ given_of at.after)) (sym (ap (λ t. t.lasts) same))
-              (noted_more s.lasts x now.one_of_them now.later now.no_fall (given_of at.before) (given_of at.after) noted_so_far);
+              subst (λ l. AllByRecursion (Contains l) (given_of at.before ++ x ∷ given_of at.after)) (sym (ap (λ t. t.answers) same))
+              (noted_more s.answers x (given_of at.before) (given_of at.after) noted_so_far);
         })
 
 module _ (Holds : List ℕ → List ℕ → Type 0) (limits : Limits) (readers : ℕ) (s : RunState) (rows : List Row) (are : AreRows Holds limits readers s rows) where

@@ -510,7 +510,7 @@ module _ (items : List Numbered) (entries : List Entry) (s : RunState) (taken : 
             old.once number some (omega (arith, other.0, le, step.searches, step.few)),
           )
 
-pub run_counted : (Holds : List ℕ → List ℕ → Type 0) (limits : Limits) (readers : ℕ) (from : RunState) → IsFirst readers from
+pub run_counted : (Holds : List ℕ → List ℕ → Type 0) (limits : Limits) (readers : ℕ) (from : RunState) → IsFirst from
     → {items : List Numbered} {entries : List Entry} {s : RunState} → Runs Holds limits readers from items entries s → AreCounted items entries s
 run_counted Holds limits readers from first =
     runs_keep Holds limits readers from AreCounted

@@ -1,11 +1,11 @@
 -- What entries say, in the order of writing.
 use Rattle.std.specs.Prelude.{◌≡◌, ℕ, ◌<◌, ◌≤◌, ◌⊎◌, ◌==◌, Bool, true, false, count_by, sum_by, List, [], ◌∷◌, ◌++◌, flat_map, Some, Contains}
 use Rattle.views.specs.Shown.{Shown}
-use Rattle.script.specs.Items.{Item, Numbered, put, load, remove, publish, search, search_in, find, sync, cancel}
+use Rattle.script.specs.Items.{Item, Numbered, put, load, remove, remove_under, publish, search, search_in, find, sync, cancel}
 use Rattle.transcript.specs.declared.entry.Entry.{Entry}
 use Rattle.transcript.specs.declared.entry.Entry.TheVariants.{Accepted, Refused, Published, Found, SearchRefused, Status}
 use Rattle.steps.specs.Rows.{version_in, failures_in, searches_of}
-use Rattle.steps.specs.LegalRows.{Limits}
+use Rattle.steps.specs.LegalRows.{IsInTurn, Limits}
 use Rattle.steps.specs.Steps.{RunState, Runs}
 
 -- whether the entry answers or refuses the search of this number
@@ -77,12 +77,13 @@ abbrev pub takes_memory : Item → Bool
 takes_memory (put name body) = true
 takes_memory (load name path) = true
 takes_memory (remove name) = true
+takes_memory (remove_under prefix) = true
 takes_memory publish = true
 takes_memory item = false
 
 -- An answer that comes after these entries: its version is among those published before it, or 0. What the same reader
--- answered before has an earlier turn, and no later version.
+-- answered before it has another turn: an earlier one and no later version, or a later one and no earlier version.
 pub record IsInOrder (before : List Entry) (reader turn : ℕ) (answer : Shown) : Type 0 where
   pub published : (answer.version ≡ 0) ⊎ Contains (versions_of before) answer.version
-  pub later : (number' turn' : ℕ) (answer' : Shown) → Contains before (Found number' reader turn' answer')
-      → (turn' < turn) × (answer'.version ≤ answer.version)
+  pub in_turn : (number' turn' : ℕ) (answer' : Shown) → Contains before (Found number' reader turn' answer')
+      → IsInTurn turn' turn answer'.version answer.version

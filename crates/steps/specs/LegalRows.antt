@@ -1,18 +1,18 @@
 -- Which rows are legal: which entry each item of a run may have, whatever the readers and their timing.
 use Rattle.std.specs.Prelude.{◌≡◌, ◌≢◌, ℕ, ◌+◌, ◌-◌, ◌^◌, ◌<◌, ◌≤◌, ◌⊎◌, List, ◌∷◌, ◌++◌, length, map, take, Option, Some, None, option_map, IfSome}
-use Rattle.std.specs.Prelude.{Contains, if◌then◌else◌, ◌==◌, Bool, true, unwrap_or}
+use Rattle.std.specs.Prelude.{Contains, if◌then◌else◌, ◌==◌, Bool, false, true, unwrap_or}
 use Rattle.index.specs.declared.error.NameError.{NameError}
 use Rattle.index.specs.declared.error.NameError.TheVariants as name_error
 use Rattle.index.specs.declared.error.BodyErrorKind.{BodyErrorKind}
 use Rattle.index.specs.declared.command.Command.{Command}
 use Rattle.index.specs.declared.lengths.Lengths.{Lengths}
-use Rattle.index.specs.Documents.{Document, number_of}
+use Rattle.index.specs.Documents.{Document, is_taken, has_under}
 use Rattle.index.specs.State.{State, state_of, body_bytes}
 use Rattle.index.specs.Text.{IsNameOf, IsNameFault, IsBodyOf, IsBodyFault}
 use Rattle.prepare.specs.Request.{Request}
 use Rattle.search.specs.Shown.{IsShownOf}
 use Rattle.views.specs.Shown.{Shown}
-use Rattle.script.specs.Items.{Item, put, load, remove, publish, search, search_in, find, sync, cancel, status, bad_line, bad_put, truncated, body_not_closed}
+use Rattle.script.specs.Items.{Item, put, load, remove, remove_under, publish, search, search_in, find, sync, cancel, status, bad_line, bad_put, truncated, body_not_closed}
 use Rattle.transcript.specs.declared.entry.Entry.{Entry}
 use Rattle.transcript.specs.declared.entry.Entry.TheVariants.{Accepted, Refused, Published, Found, SearchRefused, Status}
 use Rattle.transcript.specs.declared.entry.Reason.TheVariants as reason
@@ -57,10 +57,10 @@ pub data HasLoaded (Holds : List ℕ → List ℕ → Type 0) (lengths : Lengths
   loaded_body : (body : List ℕ) → loaded ≡ Some body → Holds path body → HasBody lengths most state body line entry
       → HasLoaded Holds lengths most state path loaded line entry
 
--- A remove needs a document of that name after all accepted commands.
-pub data IsRemove (most : ℕ) (state : State) (name : List ℕ) (line : ℕ) (entry : Entry) : Type 0 where
-  no_such_file : number_of name state.documents ≡ None → entry ≡ Refused line reason.NoSuchFile → IsRemove most state name line entry
-  is_there : number_of name state.documents ≢ None → IsRoomFor most state line entry → IsRemove most state name line entry
+-- A remove needs a document to be removed. found: whether there is one, after all accepted commands.
+pub data IsRemove (most : ℕ) (state : State) (found : Bool) (line : ℕ) (entry : Entry) : Type 0 where
+  no_such_file : found ≡ false → entry ≡ Refused line reason.NoSuchFile → IsRemove most state found line entry
+  is_there : found ≡ true → IsRoomFor most state line entry → IsRemove most state found line entry
 
 -- What the entry of a publish may be: the version of the commands accepted so far, or the refusal for memory.
 pub data IsPublish (state : State) (line : ℕ) (entry : Entry) : Type 0 where
@@ -161,7 +161,8 @@ pub record IsStatus (limits : Limits) (context : Context) (line : ℕ) (entry : 
 abbrev pub IsCommandEntry : (List ℕ → List ℕ → Type 0) → Lengths → ℕ → State → Option (List ℕ) → ℕ → Item → Entry → Type 0
 IsCommandEntry Holds lengths most state loaded line (put name body) entry = IsPut lengths most state name body line entry
 IsCommandEntry Holds lengths most state loaded line (load name path) entry = IsNamed lengths.name name line entry (HasLoaded Holds lengths most state path loaded line entry)
-IsCommandEntry Holds lengths most state loaded line (remove name) entry = IsNamed lengths.name name line entry (IsRemove most state name line entry)
+IsCommandEntry Holds lengths most state loaded line (remove name) entry = IsNamed lengths.name name line entry (IsRemove most state (is_taken name state.documents) line entry)
+IsCommandEntry Holds lengths most state loaded line (remove_under prefix) entry = IsNamed lengths.name prefix line entry (IsRemove most state (has_under prefix state.documents) line entry)
 IsCommandEntry Holds lengths most state loaded line publish entry = IsPublish state line entry
 IsCommandEntry Holds lengths most state loaded line (search case text) entry = ⊥
 IsCommandEntry Holds lengths most state loaded line (search_in case name_text text) entry = ⊥

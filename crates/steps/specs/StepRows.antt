@@ -1,5 +1,5 @@
 -- The rows of a run between two steps: each item that was taken, with its entry if it has one by now.
-use Rattle.std.specs.Prelude.{◌≡◌, ℕ, ◌+◌, ◌≤◌, List, [], ◌∷◌, ◌++◌, length, map, flat_map, Option, Some, None, false}
+use Rattle.std.specs.Prelude.{◌≡◌, ℕ, ◌+◌, ◌≤◌, List, [], ◌∷◌, ◌++◌, length, map, flat_map, Option, Some, None, false, Contains}
 use Rattle.std.specs.List.{AllByRecursion}
 use Rattle.prepare.specs.Request.{Request}
 use Rattle.views.specs.Shown.{Shown}
@@ -7,11 +7,10 @@ use Rattle.script.specs.Items.{Item, Numbered, search, search_in, find}
 use Rattle.transcript.specs.declared.entry.Entry.{Entry}
 use Rattle.transcript.specs.declared.entry.Entry.TheVariants.{Found, SearchRefused}
 use Rattle.transcript.specs.declared.entry.SearchReason.{SearchReason}
-use Rattle.steps.specs.declared.last.Last.{Last}
 use Rattle.steps.specs.Rows.{Row, list_of, commands_of, version_in, published_in, last_or, is_sync, searches_of, count_searches}
 use Rattle.steps.specs.Asked.{Asks}
-use Rattle.steps.specs.LegalRows.{Limits, IsLegalRow, IsInTurn}
-use Rattle.steps.specs.Steps.{RunState, OpenSearch, latest, last_of}
+use Rattle.steps.specs.LegalRows.{Limits, IsLegalRow}
+use Rattle.steps.specs.Steps.{RunState, OpenSearch, Given, AreTurned, given, latest}
 
 -- the row with this entry
 abbrev pub with_its_entry : Entry → Row → Row
@@ -76,15 +75,9 @@ open_in count least (row ∷ rows) =
     open_of count least row.numbered.item row.entry
     ++ open_in (count + searches_of row.numbered.item) (last_or least (version_in row.entry)) rows
 
--- an answer of a reader
-pub record Given : Type 0 where
-  pub reader : ℕ
-  pub turn : ℕ
-  pub version : ℕ
-
 -- the answer of an entry, if it is one
 abbrev pub given_in : Option Entry → List Given
-given_in (Some (Found number reader turn answer)) = record { reader = reader; turn = turn; version = answer.version } ∷ []
+given_in (Some (Found number reader turn answer)) = given reader turn answer.version ∷ []
 given_in entry = []
 
 -- the answers of rows
@@ -111,19 +104,10 @@ pub data Stands (Holds : List ℕ → List ℕ → Type 0) (limits : Limits) (re
   waits : (request : Request) → Asks row.numbered.item request → row.entry ≡ None → HasNoSync back → (readers ≡ 0 → back ≡ [])
       → Stands Holds limits readers front row back
 
--- If one reader gave both answers, they are in turn.
-abbrev pub AreTurned : Given → Given → Type 0
-AreTurned first second = first.reader ≡ second.reader → IsInTurn first.turn second.turn first.version second.version
-
 -- Any two of the answers are in turn, if one reader gave both.
 abbrev pub AllTurned : List Given → Type 0
 AllTurned [] = Unit {0}
 AllTurned (first ∷ others) = AllByRecursion (AreTurned first) others × AllTurned others
-
--- An answer has no later turn and no later version than the last one of its reader.
-pub record IsNoted (lasts : List Last) (answer : Given) : Type 0 where
-  pub turn : answer.turn ≤ (last_of lasts answer.reader).turn
-  pub version : answer.version ≤ (last_of lasts answer.reader).version
 
 -- The rows of a run in this state.
 pub record AreRows (Holds : List ℕ → List ℕ → Type 0) (limits : Limits) (readers : ℕ) (s : RunState) (rows : List Row) : Type 0 where
@@ -133,8 +117,7 @@ pub record AreRows (Holds : List ℕ → List ℕ → Type 0) (limits : Limits) 
   pub within : latest s ≤ length s.accepted
   pub searches : s.searches ≡ count_searches rows
   pub awaited : s.awaited ≡ open_in 0 0 rows
-  pub readers_count : length s.lasts ≡ readers + 1
   pub stand : (before : List Row) (row : Row) (after : List Row) → rows ≡ before ++ row ∷ after
       → Stands Holds limits readers (unanswered before) row (unanswered after)
   pub turns : AllTurned (given_of rows)
-  pub noted : AllByRecursion (IsNoted s.lasts) (given_of rows)
+  pub noted : AllByRecursion (Contains s.answers) (given_of rows)

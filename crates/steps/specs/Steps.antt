@@ -1,6 +1,6 @@
 -- Which entries may be written for which items, in which order, whatever the readers and their timing.
 use Rattle.std.specs.Prelude.{◌≡◌, ◌≢◌, ℕ, ◌+◌, ◌<◌, ◌≤◌, ◌⊎◌, List, [], ◌∷◌, ◌++◌, length, take, drop}
-use Rattle.std.specs.Prelude.{Option, Some, Contains, slice_get, slice_set, slice_index_or, false, true, All}
+use Rattle.std.specs.Prelude.{Option, Some, Contains, slice_get, false, true, All}
 use Rattle.index.specs.declared.command.Command.{Command}
 use Rattle.index.specs.State.{state_of}
 use Rattle.prepare.specs.Request.{Request}
@@ -12,10 +12,9 @@ use Rattle.transcript.specs.declared.entry.Entry.TheVariants.{Refused, Found, Se
 use Rattle.transcript.specs.declared.entry.Reason.TheVariants.{NoSuchSearch}
 use Rattle.transcript.specs.declared.entry.SearchReason.{SearchReason}
 use Rattle.transcript.specs.declared.entry.SearchReason.TheVariants as reason
-use Rattle.steps.specs.declared.last.Last.{Last}
 use Rattle.steps.specs.Rows.{command_of, accepted_by, version_in, last_or, is_sync}
 use Rattle.steps.specs.Asked.{Asks, IsFaultOf}
-use Rattle.steps.specs.LegalRows.{Limits, IsCommandEntry, WasAsked, WasNotAsked, status_entry}
+use Rattle.steps.specs.LegalRows.{Limits, IsCommandEntry, IsInTurn, WasAsked, WasNotAsked, status_entry}
 
 -- A search that has no entry yet: its number, from 1, what it asks for, and the version that was published last when it
 -- was asked.
@@ -24,27 +23,33 @@ pub record OpenSearch : Type 0 where
   pub item : Item
   pub least : ℕ
 
--- the last answer of a reader, by its parts
-abbrev pub last : ℕ → ℕ → Last
-last turn version = record { turn = turn; version = version }
+-- an answer of a reader: in which of its turns it was given, and from which version
+pub record Given : Type 0 where
+  pub reader : ℕ
+  pub turn : ℕ
+  pub version : ℕ
+
+-- an answer, by its parts
+abbrev pub given : ℕ → ℕ → ℕ → Given
+given reader turn version = record { reader = reader; turn = turn; version = version }
+
+-- If one reader gave both answers, they are in turn.
+abbrev pub AreTurned : Given → Given → Type 0
+AreTurned first second = first.reader ≡ second.reader → IsInTurn first.turn second.turn first.version second.version
 
 -- A run between two steps. accepted: the commands that were accepted. published: the versions that were published, first
 -- to last. searches: how many searches were taken. awaited: those of them that have no entry yet, in their order.
--- lasts: the last answer of each reader, reader 0 first.
+-- answers: the answers that were given.
 pub record RunState : Type 0 where
   pub accepted : List Command
   pub published : List ℕ
   pub searches : ℕ
   pub awaited : List OpenSearch
-  pub lasts : List Last
+  pub answers : List Given
 
 -- the version that was published last, or 0 before any publish
 abbrev pub latest : RunState → ℕ
 latest s = last_or 0 s.published
-
--- the last answer of this reader; turn 0 and version 0 if there is none
-abbrev pub last_of : List Last → ℕ → Last
-last_of lasts reader = slice_index_or lasts reader (last 0 0)
 
 -- a command, a publish or a fault of the script has this entry
 abbrev pub with_entry : Item → Option (List ℕ) → Entry → RunState → RunState
@@ -69,9 +74,9 @@ with_search item s = record s { searches = s.searches + 1; awaited = s.awaited +
 abbrev pub without : ℕ → RunState → RunState
 without place s = record s { awaited = take place s.awaited ++ drop (place + 1) s.awaited }
 
--- the reader has given an answer of this version, in this turn
-abbrev pub with_answer : ℕ → ℕ → ℕ → RunState → RunState
-with_answer reader turn version s = record s { lasts = slice_set s.lasts reader (last turn version) }
+-- one more answer was given
+abbrev pub with_answer : Given → RunState → RunState
+with_answer answer s = record s { answers = s.answers ++ answer ∷ [] }
 
 -- The search is open, at this place among the open ones.
 abbrev pub IsOpenAt : RunState → ℕ → OpenSearch → Type 0
@@ -90,18 +95,18 @@ pub data MayTake (readers : ℕ) (s : RunState) (item : Item) : Type 0 where
   settled : s.awaited ≡ [] → MayTake readers s item
   beside : 0 < readers → is_sync item ≡ false → MayTake readers s item
 
--- An answer of a version that is published by now (0 counts as published), no older than what was published before the
--- search was asked, and no older than the reader's last answer. It shows exactly what the search asks for of the lines with a
--- match in the documents after that version's commands.
-pub record IsAnswerNow (s : RunState) (search : OpenSearch) (reader turn : ℕ) (answer : Shown) : Type 0 where
+-- An answer of a version that is published by now (0 counts as published), and no older than what was published before the
+-- search was asked, in a turn of its own: it is no older than what the reader answered in earlier turns, and no newer than what
+-- it answered in later ones. It shows exactly what the search asks for of the lines with a match in the documents after that
+-- version's commands.
+pub record IsAnswerNow (readers : ℕ) (s : RunState) (search : OpenSearch) (reader turn : ℕ) (answer : Shown) : Type 0 where
   pub request : Request
   pub asks : Asks search.item request
   pub exact : IsShownOf (state_of (take answer.version s.accepted)) request answer
   pub published : (answer.version ≡ 0) ⊎ Contains s.published answer.version
   pub not_older : search.least ≤ answer.version
-  pub one_of_them : reader < length s.lasts
-  pub later : (last_of s.lasts reader).turn < turn
-  pub no_fall : (last_of s.lasts reader).version ≤ answer.version
+  pub one_of_them : reader ≤ readers
+  pub in_turn : All (λ before. AreTurned before (given reader turn answer.version)) s.answers
 
 -- One step: at most one item is taken, and at most one entry is written. Holds: what the source holds. readers: how many
 -- readers there are in addition to reader 0.
@@ -115,8 +120,8 @@ pub data IsStep (Holds : List ℕ → List ℕ → Type 0) (limits : Limits) (re
   refused : (item : Numbered) (why : SearchReason) → MayTake readers s item.item → IsFaultOf item.item why
       → taken ≡ item ∷ [] → written ≡ SearchRefused (s.searches + 1) why ∷ [] → s' ≡ counted s → IsStep Holds limits readers s taken written s'
   answered : (place : ℕ) (search : OpenSearch) (reader turn : ℕ) (answer : Shown) → IsOpenAt s place search
-      → IsAnswerNow s search reader turn answer
-      → taken ≡ [] → written ≡ Found search.number reader turn answer ∷ [] → s' ≡ without place (with_answer reader turn answer.version s)
+      → IsAnswerNow readers s search reader turn answer
+      → taken ≡ [] → written ≡ Found search.number reader turn answer ∷ [] → s' ≡ without place (with_answer (given reader turn answer.version) s)
       → IsStep Holds limits readers s taken written s'
   -- memory ran out for the answer
   not_answered : (place : ℕ) (search : OpenSearch) → IsOpenAt s place search
@@ -140,13 +145,12 @@ pub data IsStep (Holds : List ℕ → List ℕ → Type 0) (limits : Limits) (re
       → IsStep Holds limits readers s taken written s'
 
 -- Before the first item, no reader has answered.
-pub record IsFirst (readers : ℕ) (s : RunState) : Type 0 where
+pub record IsFirst (s : RunState) : Type 0 where
   pub accepted : s.accepted ≡ []
   pub published : s.published ≡ []
   pub searches : s.searches ≡ 0
   pub awaited : s.awaited ≡ []
-  pub count : length s.lasts ≡ readers + 1
-  pub lasts : All (λ l. l ≡ last 0 0) s.lasts
+  pub answers : s.answers ≡ []
 
 -- Steps lead from one state to another. They take these items, and write these entries.
 pub data Runs (Holds : List ℕ → List ℕ → Type 0) (limits : Limits) (readers : ℕ) (from : RunState) : List Numbered → List Entry → RunState → Type 0 where

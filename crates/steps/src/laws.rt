@@ -21,7 +21,7 @@ pub trait Holding {
 
 /// Before the first item there are no rows.
 pub fn first_rows<H: Holding>()
-    ensures { (limits : Limits) (readers : ℕ) (s : RunState) → IsFirst readers s → AreRows H.holds limits readers s [] }
+    ensures { (limits : Limits) (readers : ℕ) (s : RunState) → IsFirst s → AreRows H.holds limits readers s [] }
 {}
 
 /// A step from a state with rows leads to a state with rows, which are one more, or one of which has got its entry,
@@ -44,7 +44,7 @@ pub fn rows_are_legal<H: Holding>()
 /// as many failed loads.
 pub fn steps_have_rows<H: Holding>()
     ensures { (limits : Limits) (readers : ℕ) (from : RunState) (items : List NumberedItem) (entries : List Entry) (s : RunState)
-        → IsFirst readers from → Runs H.holds limits readers from items entries s
+        → IsFirst from → Runs H.holds limits readers from items entries s
         → (rows : List Row) × AreRows H.holds limits readers s rows × (items_of rows ≡ items) × IsPermutation (entries_of rows) entries
         × (count_failures rows ≡ failures_of entries) }
 {}
@@ -52,7 +52,7 @@ pub fn steps_have_rows<H: Holding>()
 /// Without readers, entries are written in the order of their items: a run's rows have them in the order of writing.
 pub fn entries_keep_their_order<H: Holding>()
     ensures { (limits : Limits) (from : RunState) (items : List NumberedItem) (entries : List Entry) (s : RunState)
-        → IsFirst 0 from → Runs H.holds limits 0 from items entries s
+        → IsFirst from → Runs H.holds limits 0 from items entries s
         → (rows : List Row) × AreRows H.holds limits 0 s rows × (items_of rows ≡ items) × (entries_of rows ≡ entries)
         × (count_failures rows ≡ failures_of entries) }
 {}
@@ -60,15 +60,15 @@ pub fn entries_keep_their_order<H: Holding>()
 /// Each search has at most one entry at any time, and once no search is open it has one. As many are open as have none.
 pub fn one_entry_each<H: Holding>()
     ensures one { (limits : Limits) (readers : ℕ) (from : RunState) (items : List NumberedItem) (entries : List Entry) (s : RunState)
-        → IsFirst readers from → Runs H.holds limits readers from items entries s → s.awaited ≡ []
+        → IsFirst from → Runs H.holds limits readers from items entries s → s.awaited ≡ []
         → (number : ℕ) → 0 < number → number ≤ searches_among items → count_of number entries ≡ 1 }
     ensures at_most { (limits : Limits) (readers : ℕ) (from : RunState) (items : List NumberedItem) (entries : List Entry) (s : RunState)
-        → IsFirst readers from → Runs H.holds limits readers from items entries s → (number : ℕ) → count_of number entries ≤ 1 }
+        → IsFirst from → Runs H.holds limits readers from items entries s → (number : ℕ) → count_of number entries ≤ 1 }
     ensures without_entry { (limits : Limits) (readers : ℕ) (from : RunState) (items : List NumberedItem) (entries : List Entry) (s : RunState)
-        → IsFirst readers from → Runs H.holds limits readers from items entries s
+        → IsFirst from → Runs H.holds limits readers from items entries s
         → length s.awaited + sum_by searches_in entries ≡ searches_among items }
     ensures no_other { (limits : Limits) (readers : ℕ) (from : RunState) (items : List NumberedItem) (entries : List Entry) (s : RunState)
-        → IsFirst readers from → Runs H.holds limits readers from items entries s
+        → IsFirst from → Runs H.holds limits readers from items entries s
         → (count_of 0 entries ≡ 0) × ((number : ℕ) → searches_among items < number → count_of number entries ≡ 0) }
 {}
 
@@ -77,12 +77,12 @@ pub fn one_entry_each<H: Holding>()
 /// taken, a sync, or a cancel, which may have none.
 pub fn earlier_items_come_first<H: Holding>()
     ensures taken { (limits : Limits) (readers : ℕ) (from : RunState) (items : List NumberedItem) (entries : List Entry) (s : RunState)
-        → IsFirst readers from → Runs H.holds limits readers from items entries s
+        → IsFirst from → Runs H.holds limits readers from items entries s
         → (before : List NumberedItem) (search : NumberedItem) (after : List NumberedItem) → items ≡ before ++ search ∷ after
         → (front : List Entry) (entry : Entry) (back : List Entry) → entries ≡ front ++ entry ∷ back
         → is_of (searches_among before + 1) entry ≡ true → HasTaken H.holds limits readers from before front }
     ensures lines { (limits : Limits) (readers : ℕ) (from : RunState) (items : List NumberedItem) (entries : List Entry) (s : RunState)
-        → IsFirst readers from → Runs H.holds limits readers from items entries s
+        → IsFirst from → Runs H.holds limits readers from items entries s
         → (before : List NumberedItem) (search : NumberedItem) (after : List NumberedItem) → items ≡ before ++ search ∷ after
         → (front : List Entry) (entry : Entry) (back : List Entry) → entries ≡ front ++ entry ∷ back
         → is_of (searches_among before + 1) entry ≡ true
@@ -92,7 +92,7 @@ pub fn earlier_items_come_first<H: Holding>()
 /// An answer has a version that was published before it, and no reader's versions fall as its turns rise.
 pub fn answers_are_in_order<H: Holding>()
     ensures { (limits : Limits) (readers : ℕ) (from : RunState) (items : List NumberedItem) (entries : List Entry) (s : RunState)
-        → IsFirst readers from → Runs H.holds limits readers from items entries s
+        → IsFirst from → Runs H.holds limits readers from items entries s
         → (before : List Entry) (number reader turn : ℕ) (answer : Shown) (after : List Entry)
         → entries ≡ before ++ Found number reader turn answer ∷ after → IsInOrder before reader turn answer }
 {}
@@ -100,7 +100,7 @@ pub fn answers_are_in_order<H: Holding>()
 /// An answer is no older than what was published when its search was asked.
 pub fn answers_are_not_older<H: Holding>()
     ensures { (limits : Limits) (readers : ℕ) (from : RunState) (items : List NumberedItem) (entries : List Entry) (s : RunState)
-        → IsFirst readers from → Runs H.holds limits readers from items entries s
+        → IsFirst from → Runs H.holds limits readers from items entries s
         → (search : NumberedItem) (s' : RunState) → searches_of search.item ≡ 1 → IsStep H.holds limits readers s (search ∷ []) [] s'
         → (items' : List NumberedItem) (entries' : List Entry) (s'' : RunState) → Runs H.holds limits readers s' items' entries' s''
         → (reader turn : ℕ) (answer : Shown) → Contains entries' (Found (searches_among items + 1) reader turn answer)
@@ -131,7 +131,7 @@ pub fn memory_is_taken<H: Holding>()
 /// A cancel of an open search refuses it at once. No other item does that, and no answer.
 pub fn cancels_refuse_open_searches<H: Holding>()
     ensures refused { (limits : Limits) (readers : ℕ) (from : RunState) (items : List NumberedItem) (entries : List Entry) (s : RunState)
-        → IsFirst readers from → Runs H.holds limits readers from items entries s
+        → IsFirst from → Runs H.holds limits readers from items entries s
         → (place : ℕ) (search : OpenSearch) → IsOpenAt s place search → (line : ℕ) (written : List Entry) (s' : RunState)
         → IsStep H.holds limits readers s (numbered_item line (cancel search.number) ∷ []) written s'
         → written ≡ SearchRefused search.number Cancelled ∷ [] }

@@ -2,10 +2,8 @@
 //! them. The crate has definitions and laws, and hardly any code.
 #![tactic(auto)]
 
-mod last;
 mod laws;
 
-pub use last::Last;
 pub use laws::{
     Holding, answers_are_in_order, answers_are_not_older, cancels_refuse_open_searches,
     earlier_items_come_first, entries_keep_their_order, first_rows, lines_keep_their_order,

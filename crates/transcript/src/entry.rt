@@ -24,7 +24,7 @@ pub enum Reason {
     Body(BodyErrorKind),
     /// The source failed to return the bytes of a load.
     CannotLoad,
-    /// No document has this name after all accepted commands.
+    /// No document has this name, or a name that begins with this prefix, after all accepted commands.
     NoSuchFile,
     /// No search with this number was asked.
     NoSuchSearch,

@@ -43,15 +43,15 @@ module _ {O : Type 0} (Holds : List ℕ → List ℕ → Type 0) (options : Opti
         rows = run.rows;
         items = subst (IsItemsOf script) (sym run.taken) done.all;
         whole = whole;
-        each = each_is_legal Holds limits options.readers (run_of service run.published) run.rows run.are_rows done.settled;
-        turns = are_in_turn Holds limits options.readers (run_of service run.published) run.rows run.are_rows;
+        each = each_is_legal Holds limits options.readers (run_of service run.published run.answers) run.rows run.are_rows done.settled;
+        turns = are_in_turn Holds limits options.readers (run_of service run.published run.answers) run.rows run.are_rows;
         failures = subst (λ n. IsFailedTimes n failed failed') (sym (same_failures run.rows run.written run.same)) run.failures.rises;
         begin = first_run limits options.readers;
-        end = run_of service run.published;
+        end = run_of service run.published run.answers;
         written = run.written;
         first = first_is_first limits options.readers;
         runs =
-            subst (λ (items : List Numbered). Runs Holds limits options.readers (first_run limits options.readers) items run.written (run_of service run.published))
+            subst (λ (items : List Numbered). Runs Holds limits options.readers (first_run limits options.readers) items run.written (run_of service run.published run.answers))
             (sym run.taken) run.runs;
         settled = done.settled;
         same = subst (λ (entries : List Entry). IsPermutation entries run.written) (sym whole) run.same;
@@ -98,11 +98,11 @@ module _ (Holds : List ℕ → List ℕ → Type 0) (options : LiveOptions) (inp
         record {
           items = done.items;
           entries = run.written;
-          end = run_of service run.published;
+          end = run_of service run.published run.answers;
           are_items = done.all;
           steps =
-              steps_of done.items run.written (run_of service run.published) failed'
-              (subst (λ l. Runs Holds l options.readers (first_run l options.readers) done.items run.written (run_of service run.published)) same run.runs)
+              steps_of done.items run.written (run_of service run.published run.answers) failed'
+              (subst (λ l. Runs Holds l options.readers (first_run l options.readers) done.items run.written (run_of service run.published run.answers)) same run.runs)
               run.failures;
           settled = done.settled;
           written = subst (λ b. Appends (contents begin) (contents out) (text_of_transcript b run.written)) its written.written;

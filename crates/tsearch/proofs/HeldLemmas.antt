@@ -43,7 +43,6 @@ module _ (H H' : List ℕ → List ℕ → Type 0) (more : (path body : List ℕ
     within = are.within;
     searches = are.searches;
     awaited = are.awaited;
-    readers_count = are.readers_count;
     stand = λ before row after e. stands_mapped readers _ row _ (are.stand before row after e);
     turns = are.turns;
     noted = are.noted;

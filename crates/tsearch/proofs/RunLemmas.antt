@@ -11,16 +11,16 @@ use Rattle.transcript.specs.declared.entry.Entry.{Entry}
 use Rattle.steps.specs.Rows.{Row, entries_of, list_of, is_sync, searches_of, count_searches, failures_in}
 use Rattle.steps.specs.LegalRows.{IsFailedTimes}
 use Rattle.steps.specs.Entries.{failures_of}
-use Rattle.steps.specs.Steps.{IsStep, goes_on, MayTake}
+use Rattle.steps.specs.Steps.{Given, IsStep, Runs, goes_on, MayTake}
 use Rattle.steps.specs.Steps as steps
-use Rattle.steps.specs.StepRows.{AreNext, IsOfSearch, searches_in}
+use Rattle.steps.specs.StepRows.{AreNext, AreRows, IsOfSearch, searches_in}
 use Rattle.steps.specs.StepRows as rows_of
 use Rattle.steps.proofs.RowLemmas.{count_searches-push}
 use Rattle.steps.proofs.RunLemmas.{next_items, next_entries}
 use Rattle.steps.proofs.StepLemmas.{next_rows}
-use Rattle.service.specs.Service.{ServiceState, IsCounted, Steps, Takes, Gives, run_of, versions_in}
+use Rattle.service.specs.Service.{ServiceState, IsCounted, Steps, Takes, Gives, SetsAside, run_of, versions_in}
 use Rattle.service.specs.Service as service
-use Rattle.service.proofs.ServiceLemmas.{gives_step}
+use Rattle.service.proofs.ServiceLemmas.{aside_fits, gives_step}
 use Rattle.tsearch.specs.declared.sink.News.{News}
 use Rattle.tsearch.specs.declared.sink.News.TheVariants as news
 use Rattle.tsearch.specs.Private.Running.{Start, Now, now, Told, entered, opened, passed, answered, entries_by, first_run, IsRunning, IsStopped}
@@ -58,9 +58,9 @@ one_of_search number _ (rows_of.found reader turn answer) = refl
 one_of_search number _ (rows_of.refused why) = refl
 
 gives_no_failure : (old : ServiceState) (entry : Entry) (new : ServiceState) → Gives old entry new → failures_of (entry ∷ []) ≡ 0
-gives_no_failure old entry new (service.answered place wanted reader turn answer is_open can next is after) = ap (λ e. failures_of (e ∷ [])) is
-gives_no_failure old entry new (service.not_answered place wanted is_open is after) = ap (λ e. failures_of (e ∷ [])) is
-gives_no_failure old entry new (service.too_slow place wanted timed is_open is after) = ap (λ e. failures_of (e ∷ [])) is
+gives_no_failure old entry new (service.answered place wanted reader turn answer turns is_open can gives is after) = ap (λ e. failures_of (e ∷ [])) is
+gives_no_failure old entry new (service.not_answered place wanted turns is_open still is after) = ap (λ e. failures_of (e ∷ [])) is
+gives_no_failure old entry new (service.too_slow place wanted turns timed is_open still is after) = ap (λ e. failures_of (e ∷ [])) is
 
 one_of_one : (entry : Option Entry) (e : Entry) → e ∷ [] ≡ list_of entry → entry ≡ Some e
 one_of_one None e is = cc
@@ -75,6 +75,7 @@ no_sync_shown (owned.Put name body) i other shows = ap is_sync shows
 no_sync_shown (owned.SkippedPut name size) i other shows = ap is_sync shows.1
 no_sync_shown (owned.Load name path) i other shows = ap is_sync shows
 no_sync_shown (owned.Remove name) i other shows = ap is_sync shows
+no_sync_shown (owned.RemoveUnder prefix) i other shows = ap is_sync shows
 no_sync_shown owned.Publish i other shows = ap is_sync shows
 no_sync_shown (owned.Search case pattern) i other shows = ap is_sync shows
 no_sync_shown (owned.SearchIn case name_pattern pattern) i other shows = ap is_sync shows
@@ -87,29 +88,30 @@ no_sync_shown owned.BadPut i other shows = ap is_sync shows
 no_sync_shown owned.Truncated i other shows = ap is_sync shows
 no_sync_shown owned.BodyNotClosed i other shows = ap is_sync shows
 
-may_take : (readers : ℕ) (s : ServiceState) (published : List ℕ) (o : OwnedItem) (i : Item) → ShowsOwned o i → MayTakeNow readers s o
-    → MayTake readers (run_of s published) i
-may_take readers s published o i shows (settled empty) = steps.settled empty
-may_take readers s published o i shows (beside some no_sync) = steps.beside some (no_sync_shown o i no_sync shows)
+may_take : (readers : ℕ) (s : ServiceState) (published : List ℕ) (answers : List Given) (o : OwnedItem) (i : Item) → ShowsOwned o i → MayTakeNow readers s o
+    → MayTake readers (run_of s published answers) i
+may_take readers s published answers o i shows (settled empty) = steps.settled empty
+may_take readers s published answers o i shows (beside some no_sync) = steps.beside some (no_sync_shown o i no_sync shows)
 
 -- A run that takes a step.
 module _ {W O : Type 0} (Does : W → O → News → W → O → Type 0) (Holds : List ℕ → List ℕ → Type 0) (readers : ℕ) (start : Start W O)
     (items : List Numbered) (at : Now W O) (was : IsRunning Does Holds readers start items at) where
-  module _ (taken : List Numbered) (written : List Entry) (new : ServiceState) (published' : List ℕ)
-      (step : Steps Holds readers at.service was.published taken written new published') (failed' : ℕ) (counts : IsCounted (failures_of written) at.failed failed') where
-    one_step : IsStep Holds start.limits readers (run_of at.service was.published) taken written (run_of new published')
+  module _ (taken : List Numbered) (written : List Entry) (new : ServiceState) (published' : List ℕ) (answers' : List Given)
+      (step : Steps Holds readers at.service was.published was.answers taken written new published' answers') (failed' : ℕ) (counts : IsCounted (failures_of written) at.failed failed') where
+    one_step : IsStep Holds start.limits readers (run_of at.service was.published was.answers) taken written (run_of new published' answers')
     one_step =
-        subst (λ limits. IsStep Holds limits readers (run_of at.service was.published) taken written (run_of new published')) was.limits step.step
+        subst (λ limits. IsStep Holds limits readers (run_of at.service was.published was.answers) taken written (run_of new published' answers')) was.limits step.step
 
     steps_on : (sink' : W) (out' : O)
         → ((rows' : List Row) → AreNext was.rows taken written rows' → new.searches ≡ count_searches rows'
         → Told Does start.sink start.out rows' (was.written ++ written) sink' out')
         → IsRunning Does Holds readers start (items ++ taken) (now new failed' sink' out')
     steps_on sink' out' tells =
-        let next = next_rows Holds start.limits readers (run_of at.service was.published) was.rows was.are_rows taken written (run_of new published') one_step in
+        let next = next_rows Holds start.limits readers (run_of at.service was.published was.answers) was.rows was.are_rows taken written (run_of new published' answers') one_step in
         record {
           rows = next.0;
           published = published';
+          answers = answers';
           written = was.written ++ written;
           runs = goes_on was.runs one_step refl refl;
           same =
@@ -129,7 +131,7 @@ module _ {W O : Type 0} (Does : W → O → News → W → O → Type 0) (Holds 
         → Fails at.sink at.out brings sink' out' → IsStopped Does Fails Holds readers start (items ++ taken) failed' sink' out'
     stops_on brings is Fails sink' out' fails = record {
       written = was.written ++ written;
-      end = run_of new published';
+      end = run_of new published' answers';
       runs = goes_on was.runs one_step refl refl;
       told = running.in_part was.told brings fails (ap (λ l. was.written ++ l) (sym is));
       failures = counted_written was.written written start.failed at.failed failed' was.failures counts;
@@ -139,7 +141,7 @@ module _ {W O : Type 0} (Does : W → O → News → W → O → Type 0) (Holds 
   pub stops_here : (Fails : W → O → News → W → O → Type 0) → IsStopped Does Fails Holds readers start items at.failed at.sink at.out
   stops_here Fails = record {
     written = was.written;
-    end = run_of at.service was.published;
+    end = run_of at.service was.published was.answers;
     runs = was.runs;
     told = running.whole was.told;
     failures = was.failures;
@@ -147,8 +149,8 @@ module _ {W O : Type 0} (Does : W → O → News → W → O → Type 0) (Holds 
 
   -- An open search gets its entry.
   module _ (entry : Entry) (new : ServiceState) (gives : Gives at.service entry new) where
-    given : Steps Holds readers at.service was.published [] (entry ∷ []) new was.published
-    given = gives_step Holds at.service was.published readers was.fits entry new gives
+    given : (answers' : List Given) × Steps Holds readers at.service was.published was.answers [] (entry ∷ []) new was.published answers'
+    given = gives_step Holds at.service was.published was.answers readers was.fits entry new gives
 
     unfailed : IsCounted (failures_of (entry ∷ [])) at.failed at.failed
     unfailed = subst (λ n. IsCounted n at.failed at.failed) (sym (gives_no_failure at.service entry new gives)) (none_failed at.failed)
@@ -157,7 +159,7 @@ module _ {W O : Type 0} (Does : W → O → News → W → O → Type 0) (Holds 
         → IsRunning Does Holds readers start items (now new at.failed sink' out')
     gives_on sink' out' does =
         subst (λ l. IsRunning Does Holds readers start l (now new at.failed sink' out')) (append-nil items)
-        (steps_on [] (entry ∷ []) new was.published given at.failed unfailed sink' out' tells)
+        (steps_on [] (entry ∷ []) new was.published given.0 given.1 at.failed unfailed sink' out' tells)
       where
         tells : (rows' : List Row) → AreNext was.rows [] (entry ∷ []) rows' → new.searches ≡ count_searches rows'
             → Told Does start.sink start.out rows' (was.written ++ entry ∷ []) sink' out'
@@ -172,11 +174,31 @@ module _ {W O : Type 0} (Does : W → O → News → W → O → Type 0) (Holds 
         → IsStopped Does Fails Holds readers start items at.failed sink' out'
     gives_front Fails sink' out' fails =
         subst (λ l. IsStopped Does Fails Holds readers start l at.failed sink' out') (append-nil items)
-        (stops_on [] (entry ∷ []) new was.published given at.failed unfailed (news.Answer entry) refl Fails sink' out' fails)
+        (stops_on [] (entry ∷ []) new was.published given.0 given.1 at.failed unfailed (news.Answer entry) refl Fails sink' out' fails)
+
+  -- Turns are set aside.
+  aside_on : (new : ServiceState) → SetsAside at.service new → IsRunning Does Holds readers start items (now new at.failed at.sink at.out)
+  aside_on new sets =
+      let same : run_of at.service was.published was.answers ≡ run_of new was.published was.answers =
+      sym (ap (λ s. run_of s was.published was.answers) sets.left) in
+      record {
+        rows = was.rows;
+        published = was.published;
+        answers = was.answers;
+        written = was.written;
+        runs = subst (λ s. Runs Holds start.limits readers (first_run start.limits readers) items was.written s) same was.runs;
+        same = was.same;
+        taken = was.taken;
+        are_rows = subst (λ s. AreRows Holds start.limits readers s was.rows) same was.are_rows;
+        fits = aside_fits readers at.service new was.published was.answers sets was.fits;
+        limits = ap (λ s. s.limits) sets.left ∙ was.limits;
+        told = was.told;
+        failures = was.failures;
+      }
 
   pub answers_on : (new : ServiceState) (sink' : W) (out' : O) → Answers Does at.service at.sink at.out new sink' out'
       → IsRunning Does Holds readers start items (now new at.failed sink' out')
-  answers_on new sink' out' (running.nothing same_service same_sink same_out) = rw (same_service, same_sink, same_out) was
+  answers_on new sink' out' (running.nothing sets same_sink same_out) = rw (same_sink, same_out) (aside_on new sets)
   answers_on new sink' out' (running.one entry gives does) = gives_on entry new gives sink' out' does
 
   pub answers_front : (Fails : W → O → News → W → O → Type 0) (new : ServiceState) (sink' : W) (out' : O)
@@ -190,15 +212,15 @@ module _ {W O : Type 0} (Does : W → O → News → W → O → Type 0) (Holds 
     item = numbered line shown
 
     step_of : (written : List Entry) → Takes Holds at.service item written new
-        → Steps Holds readers at.service was.published (item ∷ []) written new (was.published ++ versions_in written)
-    step_of written takes = takes was.published readers was.fits (may_take readers at.service was.published o shown shows may)
+        → Steps Holds readers at.service was.published was.answers (item ∷ []) written new (was.published ++ versions_in written) was.answers
+    step_of written takes = takes was.published was.answers readers was.fits (may_take readers at.service was.published was.answers o shown shows may)
 
     -- it has its entry
     module _ (entry : Entry) (takes : Takes Holds at.service item (entry ∷ []) new) (counts : IsCounted (failures_in (Some entry)) at.failed failed') where
       pub entry_taken : (sink' : W) (out' : O) → searches_in entry ≡ searches_of shown → Does at.sink at.out (news.Entry entry) sink' out'
           → IsRunning Does Holds readers start (items ++ item ∷ []) (now new failed' sink' out')
       entry_taken sink' out' own does =
-          steps_on (item ∷ []) (entry ∷ []) new (was.published ++ versions_in (entry ∷ [])) (step_of (entry ∷ []) takes) failed'
+          steps_on (item ∷ []) (entry ∷ []) new (was.published ++ versions_in (entry ∷ [])) was.answers (step_of (entry ∷ []) takes) failed'
           (counted_one entry at.failed failed' counts) sink' out' tells
         where
           tells : (rows' : List Row) → AreNext was.rows (item ∷ []) (entry ∷ []) rows' → new.searches ≡ count_searches rows'
@@ -215,7 +237,7 @@ module _ {W O : Type 0} (Does : W → O → News → W → O → Type 0) (Holds 
       pub cancel_taken : (sink' : W) (out' : O) → (searches_of shown ≡ 0) × (searches_in entry ≡ 1) → Does at.sink at.out (news.Answer entry) sink' out'
           → IsRunning Does Holds readers start (items ++ item ∷ []) (now new failed' sink' out')
       cancel_taken sink' out' kind does =
-          steps_on (item ∷ []) (entry ∷ []) new (was.published ++ versions_in (entry ∷ [])) (step_of (entry ∷ []) takes) failed'
+          steps_on (item ∷ []) (entry ∷ []) new (was.published ++ versions_in (entry ∷ [])) was.answers (step_of (entry ∷ []) takes) failed'
           (counted_one entry at.failed failed' counts) sink' out' tells
         where
           tells : (rows' : List Row) → AreNext was.rows (item ∷ []) (entry ∷ []) rows' → new.searches ≡ count_searches rows'
@@ -234,7 +256,7 @@ module _ {W O : Type 0} (Does : W → O → News → W → O → Type 0) (Holds 
       pub front_taken : (brings : News) → entries_by brings ≡ entry ∷ [] → (Fails : W → O → News → W → O → Type 0) (sink' : W) (out' : O)
           → Fails at.sink at.out brings sink' out' → IsStopped Does Fails Holds readers start (items ++ item ∷ []) failed' sink' out'
       front_taken brings is Fails sink' out' fails =
-          stops_on (item ∷ []) (entry ∷ []) new (was.published ++ versions_in (entry ∷ [])) (step_of (entry ∷ []) takes) failed'
+          stops_on (item ∷ []) (entry ∷ []) new (was.published ++ versions_in (entry ∷ [])) was.answers (step_of (entry ∷ []) takes) failed'
           (counted_one entry at.failed failed' counts) brings is Fails sink' out' fails
 
     -- it has no entry yet, or has none
@@ -244,7 +266,7 @@ module _ {W O : Type 0} (Does : W → O → News → W → O → Type 0) (Holds 
           → Does at.sink at.out (news.Open number) sink' out'
           → IsRunning Does Holds readers start (items ++ item ∷ []) (now new failed' sink' out')
       search_taken number is_number one sink' out' does =
-          steps_on (item ∷ []) [] new (was.published ++ versions_in []) (step_of [] takes) failed' counts sink' out' tells
+          steps_on (item ∷ []) [] new (was.published ++ versions_in []) was.answers (step_of [] takes) failed' counts sink' out' tells
         where
           tells : (rows' : List Row) → AreNext was.rows (item ∷ []) [] rows' → new.searches ≡ count_searches rows'
               → Told Does start.sink start.out rows' (was.written ++ []) sink' out'
@@ -261,7 +283,7 @@ module _ {W O : Type 0} (Does : W → O → News → W → O → Type 0) (Holds 
       -- it has none
       pub nothing_taken : searches_of shown ≡ 0 → IsRunning Does Holds readers start (items ++ item ∷ []) (now new failed' at.sink at.out)
       nothing_taken none =
-          steps_on (item ∷ []) [] new (was.published ++ versions_in []) (step_of [] takes) failed' counts at.sink at.out tells
+          steps_on (item ∷ []) [] new (was.published ++ versions_in []) was.answers (step_of [] takes) failed' counts at.sink at.out tells
         where
           tells : (rows' : List Row) → AreNext was.rows (item ∷ []) [] rows' → new.searches ≡ count_searches rows'
               → Told Does start.sink start.out rows' (was.written ++ []) at.sink at.out
@@ -276,4 +298,4 @@ module _ {W O : Type 0} (Does : W → O → News → W → O → Type 0) (Holds 
       pub open_front : (number : ℕ) (Fails : W → O → News → W → O → Type 0) (sink' : W) (out' : O) → Fails at.sink at.out (news.Open number) sink' out'
           → IsStopped Does Fails Holds readers start (items ++ item ∷ []) failed' sink' out'
       open_front number Fails sink' out' fails =
-          stops_on (item ∷ []) [] new (was.published ++ versions_in []) (step_of [] takes) failed' counts (news.Open number) refl Fails sink' out' fails
+          stops_on (item ∷ []) [] new (was.published ++ versions_in []) was.answers (step_of [] takes) failed' counts (news.Open number) refl Fails sink' out' fails

@@ -1,8 +1,6 @@
 -- A run or a session goes on from event to event, and ends.
 use Rattle.std.proofs.Common.{◌≡◌, ℕ, zero, suc, ◌+◌, Bool, true, false, inl, List, [], ◌∷◌, ◌++◌, Option, None, Result, Ok, Err, refl, sym, ap, ◌∙◌, subst, arith}
 use Rattle.std.proofs.Common.{append_assoc, append-nil}
-use Rattle.std.proofs.lemmas.List.{length-replicate}
-use Rattle.std.proofs.lemmas.List.Elements.{All-replicate}
 use Rattle.std.proofs.lemmas.List.Sorted.{IsPermutation-refl}
 use Rattle.std.specs.Prelude.{Contains, IfOk, OnOk, OnErr}
 use Rattle.script.specs.Items.{Item, Numbered, numbered}
@@ -11,9 +9,10 @@ use Rattle.input.specs.Owned.{ShowsOwned}
 use Rattle.input.specs.Read.{AreShown, none, one_more, InboxState, inbox_state, Came, CameIn, HasItems, IsReadOf, EndsBy}
 use Rattle.input.specs.Read as reads
 use Rattle.steps.specs.LegalRows.{Limits}
-use Rattle.steps.specs.Steps.{IsFirst, begins, last}
+use Rattle.steps.specs.Steps.{IsFirst, begins}
 use Rattle.steps.proofs.SourceLemmas.{runs_mapped}
 use Rattle.steps.proofs.StepLemmas.{first_rows}
+use Rattle.service.proofs.TurnsLemmas.{first_have}
 use Rattle.service.specs.Service.{ServiceState, Fits, first_service, run_of}
 use Rattle.tsearch.specs.declared.error.LiveError.{LiveError}
 use Rattle.tsearch.specs.declared.sink.News.{News}
@@ -42,21 +41,20 @@ shown_last reads read items shown = let split = shown_split reads (read ∷ []) 
 
 -- Before the first item.
 
-first_fits : (limits : Limits) (readers : ℕ) → Fits (first_service limits readers) []
-first_fits limits readers = record { latest = refl; kept = λ version inside. inl (first version inside) }
+first_fits : (limits : Limits) (readers : ℕ) → Fits readers (first_service limits readers) [] []
+first_fits limits readers = record { latest = refl; kept = λ version inside. inl (first version inside); turns = first_have readers }
   where
     first : (version : ℕ) → Contains (0 ∷ []) version → version ≡ 0
     first version (zero, few, same) = sym same
     first version (suc k, few, same) = absurd (omega (arith, few))
 
-pub first_is_first : (limits : Limits) (readers : ℕ) → IsFirst readers (first_run limits readers)
+pub first_is_first : (limits : Limits) (readers : ℕ) → IsFirst (first_run limits readers)
 first_is_first limits readers = record {
   accepted = refl;
   published = refl;
   searches = refl;
   awaited = refl;
-  count = length-replicate (readers + 1) (last 0 0);
-  lasts = All-replicate (λ l. l ≡ last 0 0) (readers + 1) (last 0 0) refl;
+  answers = refl;
 }
 
 module _ {W O : Type 0} (Does : W → O → News → W → O → Type 0) (Holds : List ℕ → List ℕ → Type 0) (readers : ℕ) where
@@ -65,6 +63,7 @@ module _ {W O : Type 0} (Does : W → O → News → W → O → Type 0) (Holds 
   running_begins limits service failed sink out first = rw first (record {
     rows = [];
     published = [];
+    answers = [];
     written = [];
     runs = begins;
     same = IsPermutation-refl [];
@@ -206,11 +205,12 @@ module _ {W O : Type 0} (Does Fails : W → O → News → W → O → Type 0) (
   running_mapped items at was = record {
     rows = was.rows;
     published = was.published;
+    answers = was.answers;
     written = was.written;
     runs = runs_mapped H H' holds start.limits readers (first_run start.limits readers) was.runs;
     same = was.same;
     taken = was.taken;
-    are_rows = rows_mapped H H' holds start.limits readers (run_of at.service was.published) was.rows was.are_rows;
+    are_rows = rows_mapped H H' holds start.limits readers (run_of at.service was.published was.answers) was.rows was.are_rows;
     fits = was.fits;
     limits = was.limits;
     told = was.told;

@@ -25,7 +25,7 @@ pub record IsLegal (script : List ℕ) (options : Options) (Holds : List ℕ →
   pub begin : RunState
   pub end : RunState
   pub written : List Entry
-  pub first : IsFirst options.readers begin
+  pub first : IsFirst begin
   pub runs : Runs Holds (limits_in options) options.readers begin (items_of rows) written end
   pub settled : end.awaited ≡ []
   pub same : IsPermutation entries written

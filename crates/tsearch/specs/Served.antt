@@ -20,7 +20,7 @@ limits_in options = record { commands = options.max_commands; lengths = options.
 pub record AreSteps (options : LiveOptions) (Holds : List ℕ → List ℕ → Type 0) (failed failed' : ℕ) (items : List Numbered) (entries : List Entry)
     (end : RunState) : Type 0 where
   pub begin : RunState
-  pub first : IsFirst options.readers begin
+  pub first : IsFirst begin
   pub runs : Runs Holds (limits_in options) options.readers begin items entries end
   pub failures : IsFailedTimes (failures_of entries) failed failed'
 

@@ -1,12 +1,12 @@
 //! The threads of a run or a session, and the channels between them and it.
 
-use crossbeam_channel::{Receiver, Sender, bounded, unbounded};
+use crossbeam_channel::{Receiver, Sender, bounded};
 use input::{Feed, Next};
-use service::{Done, Gate, Reader, Task};
+use service::{Begun, Done, Gate, Line, Post, Reader, Stops, Task};
 use std::alloc::{AllocError, Global};
 use std::io::BufRead;
 use std::marker::PhantomData;
-use std::sync::Wait;
+use std::sync::{Arc, Wait};
 use std::thread::{self, Scope, Threads};
 use std::time::Clock;
 
@@ -50,18 +50,11 @@ impl<J: service::Naming, K: input::Naming> From<Next<K>> for Event<J, K> {
 #[derive(Drop)]
 struct Permit;
 
-/// The channels to readers that are at work. What comes from threads is of type M.
+/// The threads that answer searches, and what comes from them. It is of type M.
 #[derive(Drop)]
-struct Channels<M> {
-    tasks: Sender<Task>,
+struct Workers<J: service::Naming, M> {
+    line: Arc<Line<J, Task>, Global>,
     events: Receiver<M>,
-}
-
-/// The threads' ends of the channels.
-#[derive(Drop)]
-struct Ends<M> {
-    tasks: Receiver<Task>,
-    events: Sender<M>,
 }
 
 /// Who reads the input.
@@ -81,8 +74,8 @@ enum Reading<K: input::Naming, I: BufRead + Drop> {
 #[derive(Drop)]
 pub(crate) struct Crew<J: service::Naming, K: input::Naming, I: BufRead + Drop> {
     reading: Reading<K, I>,
-    /// The channels to readers, if any are at work in threads.
-    readers: Option<Channels<Event<J, K>>>,
+    /// The threads that answer searches, if there are any.
+    workers: Option<Workers<J, Event<J, K>>>,
 }
 
 impl<K: input::Naming, I: BufRead + Drop> Reading<K, I> {
@@ -93,21 +86,6 @@ impl<K: input::Naming, I: BufRead + Drop> Reading<K, I> {
             permitted: true,
         }
     }
-}
-
-/// Makes the channels, for so many events at a time.
-fn make_channels<M: Drop>(
-    alloc: Global,
-    waiting: usize,
-) -> Result<(Channels<M>, Ends<M>), AllocError> {
-    let (tasks, open) = unbounded(alloc)?;
-    let (sent, events) = bounded::<M, Global>(alloc, waiting)?;
-    let channels = Channels { tasks, events };
-    let ends = Ends {
-        tasks: open,
-        events: sent,
-    };
-    Ok((channels, ends))
 }
 
 /// What a run lends to its readers.
@@ -136,15 +114,15 @@ impl<J: service::Naming + Send + Sync, K: input::Naming + Send + Sync, I: BufRea
         feed: Feed<K, I>,
         readers: Vec<Reader<J>>,
     ) -> Crew<J, K, I> {
-        let readers = start_scoped(scope, lent, readers);
+        let workers = start_scoped(scope, lent, readers);
         Crew {
             reading: Reading::here(feed),
-            readers,
+            workers,
         }
     }
 }
 
-/// Starts the readers of a run. `None` means that none is at work.
+/// Starts a thread for each reader of a run. `None` means that none is at work.
 fn start_scoped<
     's,
     'a: 's,
@@ -157,24 +135,29 @@ fn start_scoped<
     scope: &Scope<'s, E>,
     lent: &Lent<'a, J, K, R, G>,
     readers: Vec<Reader<J>>,
-) -> Option<Channels<Event<J, K>>> {
+) -> Option<Workers<J, Event<J, K>>> {
     if readers.is_empty() {
         return None;
     }
-    let Ok((channels, ends)) = make_channels::<Event<J, K>>(lent.alloc, ANSWERS) else {
-        return None;
-    };
+    let (sent, events) = bounded::<Event<J, K>, Global>(lent.alloc, ANSWERS).ok()?;
+    let most = readers.len();
+    // All entries come at the end, so no search waits for another.
+    let line = Arc::new(lent.alloc, Line::new(lent.alloc, readers, Stops::Never)).ok()?;
     let mut any = false;
-    for reader in readers {
-        if !start_in(scope, lent, reader, &ends) {
+    for _ in 0..most {
+        if !start_in(scope, lent, &line, &sent) {
             break;
         }
         any = true;
     }
-    if any { Some(channels) } else { None }
+    if any {
+        Some(Workers { line, events })
+    } else {
+        None
+    }
 }
 
-/// Starts a reader of a run. `false` means that it could not be started.
+/// Starts a thread of a run. `false` means that it could not be started.
 fn start_in<
     's,
     'a: 's,
@@ -186,19 +169,57 @@ fn start_in<
 >(
     scope: &Scope<'s, E>,
     lent: &Lent<'a, J, K, R, G>,
-    reader: Reader<J>,
-    ends: &Ends<Event<J, K>>,
+    line: &Arc<Line<J, Task>, Global>,
+    events: &Sender<Event<J, K>>,
 ) -> bool {
-    let Ok(tasks) = ends.tasks.clone() else {
+    let Ok(own) = Arc::try_clone(line) else {
         return false;
     };
-    let Ok(events) = ends.events.clone() else {
+    let Ok(events) = events.clone() else {
         return false;
     };
     let (rt, alloc, gate) = (lent.rt, lent.alloc, lent.gate);
-    scope
-        .spawn(move || reader.work(rt, alloc, tasks, events, NO_TEXT, gate))
-        .is_ok()
+    let Some(post) = line.admit(rt) else {
+        return false;
+    };
+    if scope
+        .spawn(move || work_on(rt, alloc, &own, &post, &events, NO_TEXT, gate))
+        .is_err()
+    {
+        line.dismiss(rt);
+        return false;
+    }
+    true
+}
+
+/// Answers searches as they come, until none can come any more or nobody takes the answers. Of the text of each, about `ahead`
+/// bytes are formed.
+fn work_on<
+    J: service::Naming + Send + Sync,
+    T: Into<Task> + Drop + Send,
+    M: From<Done<J>> + Drop,
+    R: Threads + Wait + Clock + Sync,
+    G: Gate,
+>(
+    rt: &R,
+    alloc: Global,
+    line: &Arc<Line<J, T>, Global>,
+    post: &Arc<Post<J, T>, Global>,
+    events: &Sender<M>,
+    ahead: usize,
+    gate: &G,
+) {
+    let mut left = None;
+    for _ in rt.forever() {
+        let Some(job) = line.next(rt, post, left) else {
+            return;
+        };
+        let (back, done) = line.answer(rt, alloc, post, job, ahead, gate);
+        if events.send(rt, M::from(done)).is_err() {
+            return;
+        }
+        left = Some(back);
+    }
 }
 
 impl<
@@ -215,13 +236,13 @@ impl<
         G: Gate + Copy + Send + 'static,
     >(rt: &R, alloc: Global, feed: Feed<K, I>, readers: Vec<Reader<J>>, gate: G) -> Crew<J, K, I> {
         match start_threads::<J, K, I, Event<J, K>, R, G>(rt, alloc, feed, readers, gate) {
-            Ok((channels, permits)) => Crew {
+            Ok((workers, permits)) => Crew {
                 reading: Reading::Thread(permits),
-                readers: Some(channels),
+                workers: Some(workers),
             },
             Err(feed) => Crew {
                 reading: Reading::here(feed),
-                readers: None,
+                workers: None,
             },
         }
     }
@@ -241,29 +262,33 @@ fn start_threads<
     feed: Feed<K, I>,
     readers: Vec<Reader<J>>,
     gate: G,
-) -> Result<(Channels<M>, Sender<Permit>), Feed<K, I>> {
+) -> Result<(Workers<J, M>, Sender<Permit>), Feed<K, I>> {
     if readers.is_empty() {
         return Err(feed);
     }
-    let Ok((channels, ends)) = make_channels::<M>(alloc, EVENTS) else {
+    let Ok((sent, events)) = bounded::<M, Global>(alloc, EVENTS) else {
         return Err(feed);
     };
     let Ok((permits, permitted)) = bounded::<Permit, Global>(alloc, AHEAD) else {
         return Err(feed);
     };
-    let Ends { tasks, events } = ends;
-    if !start_readers(rt, alloc, readers, tasks, &events, gate) {
+    let Some(line) = start_workers(rt, alloc, readers, &sent, gate) else {
         return Err(feed);
-    }
-    match start_reading(rt, feed, permitted, events, permits) {
-        Ok(permits) => Ok((channels, permits)),
-        Err(feed) => Err(feed),
+    };
+    match start_reading(rt, feed, permitted, sent, permits) {
+        Ok(permits) => Ok((Workers { line, events }, permits)),
+        Err(feed) => {
+            line.close(rt);
+            Err(feed)
+        }
     }
 }
 
-/// Starts a thread for each reader, until one cannot be started. Returns whether any was.
-fn start_readers<
+/// Starts a thread for each reader, until one cannot be started, and one that starts further ones. `None` means that none was
+/// started.
+fn start_workers<
     J: service::Naming + Send + Sync + 'static,
+    T: Into<Task> + Drop + Send + 'static,
     M: From<Done<J>> + Drop + Send + 'static,
     R: Threads + Wait + Clock + Sync + Send + Copy + 'static,
     G: Gate + Copy + Send + 'static,
@@ -271,51 +296,108 @@ fn start_readers<
     rt: &R,
     alloc: Global,
     readers: Vec<Reader<J>>,
-    tasks: Receiver<Task>,
     events: &Sender<M>,
     gate: G,
-) -> bool {
+) -> Option<Arc<Line<J, T>, Global>> {
+    let most = readers.len();
+    let stops = if gate.stops() {
+        Stops::Always
+    } else {
+        Stops::InTurn
+    };
+    let line = Arc::new(alloc, Line::new(alloc, readers, stops)).ok()?;
     let mut started = false;
-    for reader in readers {
-        if !start_reader(rt, alloc, reader, &tasks, events, gate) {
+    for _ in 0..most {
+        if !start_worker(rt, alloc, &line, events, gate) {
             break;
         }
         started = true;
     }
-    started
+    if started {
+        start_starter(rt, alloc, &line, events, gate);
+        Some(line)
+    } else {
+        None
+    }
 }
 
-/// Starts a thread for a reader. `false` means that it could not be started.
-fn start_reader<
+/// Starts the thread that starts further ones. If it cannot be started, there are as many threads as readers.
+fn start_starter<
     J: service::Naming + Send + Sync + 'static,
+    T: Into<Task> + Drop + Send + 'static,
     M: From<Done<J>> + Drop + Send + 'static,
     R: Threads + Wait + Clock + Sync + Send + Copy + 'static,
     G: Gate + Copy + Send + 'static,
->(
-    rt: &R,
-    alloc: Global,
-    reader: Reader<J>,
-    tasks: &Receiver<Task>,
-    events: &Sender<M>,
-    gate: G,
-) -> bool {
-    let Ok(tasks) = tasks.clone() else {
+>(rt: &R, alloc: Global, line: &Arc<Line<J, T>, Global>, events: &Sender<M>, gate: G) {
+    let Ok(own) = Arc::try_clone(line) else {
+        return;
+    };
+    let Ok(events) = events.clone() else {
+        return;
+    };
+    let host = *rt;
+    let _ = thread::spawn(rt, move || start_more(host, alloc, own, events, gate));
+}
+
+/// Starts a thread each time that all have a search, until no search comes any more.
+fn start_more<
+    J: service::Naming + Send + Sync + 'static,
+    T: Into<Task> + Drop + Send + 'static,
+    M: From<Done<J>> + Drop + Send + 'static,
+    R: Threads + Wait + Clock + Sync + Send + Copy + 'static,
+    G: Gate + Copy + Send + 'static,
+>(rt: R, alloc: Global, line: Arc<Line<J, T>, Global>, events: Sender<M>, gate: G) {
+    for _ in rt.forever() {
+        if !line.needs_thread(&rt) {
+            return;
+        }
+        let _ = start_worker(&rt, alloc, &line, &events, gate);
+    }
+}
+
+/// Starts a thread that answers searches. `false` means that it was not started.
+fn start_worker<
+    J: service::Naming + Send + Sync + 'static,
+    T: Into<Task> + Drop + Send + 'static,
+    M: From<Done<J>> + Drop + Send + 'static,
+    R: Threads + Wait + Clock + Sync + Send + Copy + 'static,
+    G: Gate + Copy + Send + 'static,
+>(rt: &R, alloc: Global, line: &Arc<Line<J, T>, Global>, events: &Sender<M>, gate: G) -> bool {
+    let Some(post) = line.admit(rt) else {
+        return false;
+    };
+    let Ok(own) = Arc::try_clone(line) else {
+        line.dismiss(rt);
         return false;
     };
     let Ok(events) = events.clone() else {
+        line.dismiss(rt);
         return false;
     };
-    let own = *rt;
-    thread::spawn(rt, move || work(own, alloc, reader, tasks, events, gate)).is_ok()
+    let host = *rt;
+    if thread::spawn(rt, move || work(host, alloc, own, post, events, gate)).is_err() {
+        line.dismiss(rt);
+        return false;
+    }
+    true
 }
 
+/// Answers searches as they come, until none can come any more or nobody takes the answers.
 fn work<
-    J: service::Naming,
+    J: service::Naming + Send + Sync,
+    T: Into<Task> + Drop + Send,
     M: From<Done<J>> + Drop,
     R: Threads + Wait + Clock + Sync + Drop,
     G: Gate + Drop,
->(rt: R, alloc: Global, reader: Reader<J>, tasks: Receiver<Task>, events: Sender<M>, gate: G) {
-    reader.work(&rt, alloc, tasks, events, TEXT_AHEAD, &gate)
+>(
+    rt: R,
+    alloc: Global,
+    line: Arc<Line<J, T>, Global>,
+    post: Arc<Post<J, T>, Global>,
+    events: Sender<M>,
+    gate: G,
+) {
+    work_on(&rt, alloc, &line, &post, &events, TEXT_AHEAD, &gate);
 }
 
 /// Starts the thread that reads the input, and hands out the first permits. An `Err` means that it could not be started,
@@ -372,13 +454,13 @@ fn read<K: input::Naming, I: BufRead + Drop, M: From<Next<K>> + Drop, R: Wait + 
 impl<J: service::Naming, K: input::Naming, I: BufRead + Drop> Crew<J, K, I> {
     /// Whether no reader is at work in a thread.
     pub(crate) fn is_alone(&self) -> bool {
-        self.readers.is_none()
+        self.workers.is_none()
     }
 
     /// An event, if there is one already.
     pub(crate) fn ready<R: Wait>(&self, rt: &R) -> Option<Event<J, K>> {
-        match &self.readers {
-            Some(channels) => channels.events.try_recv(rt).ok(),
+        match &self.workers {
+            Some(workers) => workers.events.try_recv(rt).ok(),
             None => None,
         }
     }
@@ -392,8 +474,8 @@ impl<J: service::Naming, K: input::Naming, I: BufRead + Drop> Crew<J, K, I> {
                 return Some(Event::Read(feed.next()));
             }
         }
-        match &self.readers {
-            Some(channels) => channels.events.recv(rt).ok(),
+        match &self.workers {
+            Some(workers) => workers.events.recv(rt).ok(),
             None => None,
         }
     }
@@ -414,13 +496,25 @@ impl<J: service::Naming, K: input::Naming, I: BufRead + Drop> Crew<J, K, I> {
     }
 
     /// Hands a search to the readers. `None` means that they have it; if they cannot have it, it comes back.
-    pub(crate) fn hand_out<R: Wait>(&self, rt: &R, task: Task) -> Option<Task> {
-        let Some(channels) = &self.readers else {
-            return Some(task);
-        };
-        match channels.tasks.send(rt, task) {
-            Ok(()) => None,
-            Err(refused) => Some(refused.into_inner()),
+    pub(crate) fn hand_out<R: Wait>(&self, rt: &R, lane: Vec<u8>, task: Task) -> Option<Task> {
+        match &self.workers {
+            Some(workers) => workers.line.hand_out(rt, lane, task),
+            None => Some(task),
+        }
+    }
+
+    /// A search that was stopped, of which the service is to take note before it takes an answer.
+    pub(crate) fn take_begun<R: Wait>(&self, rt: &R) -> Option<Begun> {
+        match &self.workers {
+            Some(workers) => workers.line.take_begun(rt),
+            None => None,
+        }
+    }
+
+    /// Ends: no search comes any more.
+    pub(crate) fn close<R: Wait>(self, rt: &R) {
+        if let Some(workers) = &self.workers {
+            workers.line.close(rt);
         }
     }
 }

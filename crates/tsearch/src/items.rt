@@ -2,7 +2,7 @@
 
 ghost use Rattle.std.specs.Prelude.{◌≡◌, ◌≢◌, ℕ, ◌+◌, ◌<◌, ◌≤◌, ◌^◌, ◌⊎◌, true, List, [], ◌∷◌, ◌++◌, None, IfOk, OnOk, OnErr};
 ghost use Rattle.input.specs.Read.{EndsBy, IsReadOf, inbox_state};
-ghost use Rattle.service.specs.Service.{first_service};
+ghost use Rattle.service.specs.Service.{SetsAside, first_service};
 ghost use Rattle.tsearch.specs.Private.Running.{Start, start_at, now, Answers, AnswersFront, TakesOne, FailsAtOne};
 ghost use Rattle.tsearch.specs.Private.Serving.{IsServing, IsCutOff, IsDone, IsAdvanced, MayTakeNow, TakesEvent, FailsAtEvent};
 
@@ -181,17 +181,42 @@ fn take_event<
             Err(error) => Err(of_inbox(error)),
         },
         Some(Event::Answer(done)) => {
-            take_answer(plan, service, sink, out, done)?;
+            take_answer(plan, service, crew, sink, out, done)?;
             Ok(true)
         }
         None => Err(LiveError::CannotRead),
     }
 }
 
-/// Tells the sink what a reader answered.
-fn take_answer<J: service::Naming, R: Threads + Wait + Clock + Sync, T: Sink<O>, O>(
+/// Has the service take note of the searches that were stopped.
+fn note_begun<J: service::Naming, K: input::Naming, R: Wait, I: BufRead + Drop>(
     plan: &Plan<'_, R>,
     service: &mut Service<J>,
+    crew: &Crew<J, K, I>,
+)
+    ensures { SetsAside service.old service.new }
+{
+    for _ in plan.rt.forever() {
+        match crew.take_begun(plan.rt) {
+            Some(begun) => service.set_aside(&begun),
+            None => return,
+        }
+    }
+    unreachable!()
+}
+
+/// Tells the sink what a reader answered.
+fn take_answer<
+    J: service::Naming,
+    K: input::Naming,
+    R: Threads + Wait + Clock + Sync,
+    I: BufRead + Drop,
+    T: Sink<O>,
+    O,
+>(
+    plan: &Plan<'_, R>,
+    service: &mut Service<J>,
+    crew: &Crew<J, K, I>,
     sink: &mut T,
     out: &mut O,
     done: Done<J>,
@@ -199,6 +224,7 @@ fn take_answer<J: service::Naming, R: Threads + Wait + Clock + Sync, T: Sink<O>,
     ensures ok { OnOk result (Answers T.does service.old sink.old out.old service.new sink.new out.new) }
     ensures err { OnErr result (AnswersFront T.fails service.old sink.old out.old service.new sink.new out.new) }
 {
+    note_begun(plan, service, crew);
     match service.answered(plan.rt, plan.alloc, done) {
         Some(entry) => sink.note(plan.rt, plan.alloc, News::Answer(entry), out),
         None => Ok(()),
@@ -263,7 +289,8 @@ fn hand_out<
     ensures ok { OnOk result (Answers T.does service.old sink.old out.old service.new sink.new out.new) }
     ensures err { OnErr result (AnswersFront T.fails service.old sink.old out.old service.new sink.new out.new) }
 {
-    let Some(task) = crew.hand_out(plan.rt, task) else {
+    let lane = task.lane(plan.alloc);
+    let Some(task) = crew.hand_out(plan.rt, lane, task) else {
         return Ok(());
     };
     match service.answer_here(plan.rt, plan.alloc, &task) {

@@ -29,7 +29,7 @@ use transcript::{Entry, Transcript};
 /// How a script is run.
 #[derive(Clone, Copy, Debug, PartialEq, Eq)]
 pub struct Options {
-    /// How many readers there are in addition to reader 0, each with a thread of its own, 0 to 16.
+    /// How many readers there are in addition to reader 0, 0 to 16: so many searches are at work at once.
     pub readers: u32,
     /// How many commands are accepted at most, 1 to 4,294,967,294.
     pub max_commands: u32,
@@ -37,6 +37,8 @@ pub struct Options {
     pub lengths: Lengths,
     /// After how many milliseconds a search that has no answer yet is given up, if there is such a limit.
     pub search_ms: Option<u32>,
+    /// Whether each answer shows how long it waited and worked, and the way its lines were found.
+    pub times: bool,
 }
 
 /// Why a run has no transcript.
@@ -98,6 +100,7 @@ pub fn run<R: Threads + Wait + Clock + Sync, S: Source + Drop, G: Gate>(
         options.max_commands,
         options.lengths,
         options.search_ms,
+        options.times,
         options.readers,
     ) {
         Ok(opened) => opened,
@@ -309,7 +312,7 @@ fn collect_all<
     let mut crew = crew;
     let mut inbox = inbox;
     let mut collected = Collected::new(alloc);
-    match carry_out_all(
+    let done = carry_out_all(
         &plan,
         service,
         &mut crew,
@@ -317,7 +320,9 @@ fn collect_all<
         &mut collected,
         source,
         &mut (),
-    ) {
+    );
+    crew.close(rt);
+    match done {
         Ok(()) => Ok(collected.into_entries()),
         Err(error) => Err(error),
     }

@@ -24,7 +24,7 @@ use std::time::Clock;
 /// How a session is run.
 #[derive(Clone, Copy, Debug, PartialEq, Eq)]
 pub struct LiveOptions {
-    /// How many readers there are in addition to reader 0, each with a thread of its own, 0 to 16.
+    /// How many readers there are in addition to reader 0, 0 to 16: so many searches are at work at once.
     pub readers: u32,
     /// How many commands are accepted at most, 1 to 4,294,967,294.
     pub max_commands: u32,
@@ -32,6 +32,8 @@ pub struct LiveOptions {
     pub lengths: Lengths,
     /// After how many milliseconds a search that has no answer yet is given up, if there is such a limit.
     pub search_ms: Option<u32>,
+    /// Whether each answer shows how long it waited and worked, and the way its lines were found.
+    pub times: bool,
     /// Whether each answer also shows its number of candidates and of documents.
     pub stats: bool,
 }
@@ -41,9 +43,9 @@ pub struct LiveOptions {
 /// session: 2 if anything was refused, otherwise 0 if some search has a hit, and otherwise 1, as `transcript::status` does
 /// for a run.
 ///
-/// The calling thread carries out the items and writes. With readers, a thread reads the input, and each reader answers
-/// searches in a thread of its own, so a search holds up neither the items after it nor, while another reader is free,
-/// other searches. Its answer is written when it comes. A sync, and what follows it, waits until no search is open.
+/// The calling thread carries out the items and writes. With readers, a thread reads the input, and others answer searches, as
+/// many at once as there are readers: a search holds up neither the items after it nor, for longer than its turn, other
+/// searches. Its answer is written when it comes. A sync, and what follows it, waits until no search is open.
 /// Without readers, or if no thread can be started, the calling thread reads, and answers each search at once. A reader
 /// calls the gate at each point of a search.
 ///
@@ -94,6 +96,7 @@ pub fn serve<
         options.max_commands,
         options.lengths,
         options.search_ms,
+        options.times,
         options.readers,
     ) {
         Ok(opened) => opened,
@@ -186,7 +189,7 @@ fn serve_all<
     let mut crew = crew;
     let mut inbox = inbox;
     let mut written = Written::new(alloc, options.stats, options.readers as usize + 1);
-    match carry_out_all(
+    let done = carry_out_all(
         &plan,
         service,
         &mut crew,
@@ -194,7 +197,9 @@ fn serve_all<
         &mut written,
         source,
         out,
-    ) {
+    );
+    crew.close(rt);
+    match done {
         Ok(()) => Ok(written.marks.status()),
         Err(error) => Err(error),
     }

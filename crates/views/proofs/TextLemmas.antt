@@ -18,10 +18,16 @@ two a b = simp append-nil
 pub seven : (a b c d e f g : List ℕ) → a ++ (b ++ (c ++ (d ++ (e ++ (f ++ (g ++ [])))))) ≡ (((((a ++ b) ++ c) ++ d) ++ e) ++ f) ++ g
 seven a b c d e f g = simp (append-nil, append_assoc)
 
--- four texts one after another
-pub grown : (old a b c end w x y z : List ℕ) → w ≡ old ++ a → x ≡ w ++ b → y ≡ x ++ c → z ≡ y ++ (end ++ []) → z ≡ old ++ (((a ++ b) ++ c) ++ end)
-grown old a b c end w x y z first second third last =
-    last ∙ (ap (λ t. t ++ (end ++ [])) (third ∙ ap (λ t. t ++ c) (second ∙ ap (λ t. t ++ b) first)) ∙ simp (append-nil, append_assoc))
+pub six : (a b c d e f : List ℕ) → a ++ (b ++ (c ++ (d ++ (e ++ (f ++ []))))) ≡ ((((a ++ b) ++ c) ++ d) ++ e) ++ f
+six a b c d e f = simp (append-nil, append_assoc)
+
+-- five texts one after another
+pub grown : (old a b c d end v w x y z : List ℕ) → v ≡ old ++ a → w ≡ v ++ b → x ≡ w ++ c → y ≡ x ++ d → z ≡ y ++ (end ++ [])
+    → z ≡ old ++ ((((a ++ b) ++ c) ++ d) ++ end)
+grown old a b c d end v w x y z first second third fourth last =
+    last
+    ∙ (ap (λ t. t ++ (end ++ [])) (fourth ∙ ap (λ t. t ++ d) (third ∙ ap (λ t. t ++ c) (second ∙ ap (λ t. t ++ b) first)))
+    ∙ simp (append-nil, append_assoc))
 
 -- ---- the lines of hits, one after another
 

@@ -17,4 +17,6 @@ shown_of contents = record {
   text = text_of_parts contents.parts.items;
   documents = contents.documents;
   candidates = contents.candidates;
+  found_by = contents.found_by;
+  times = contents.times;
 }

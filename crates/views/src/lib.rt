@@ -15,5 +15,5 @@ pub use near::append_stretches;
 pub use parts::{Passage, PassageText};
 pub use places::{Hit, Lines, Place, Places};
 pub use row::{append_at_column, append_count, append_name, append_place, append_span};
-pub use shown::{Shown, ShownContents};
+pub use shown::{FoundBy, Shown, ShownContents, Times};
 pub use text::{PIECE, after_name, append_all, append_hit, append_lines, form_lines};

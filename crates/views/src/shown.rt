@@ -1,6 +1,7 @@
 //! What a client gets of an answer.
 
 ghost use Rattle.std.specs.Prelude.{◌≡◌, codes, if◌then◌else◌, []};
+ghost use Rattle.views.specs.Shown.{text_of_way};
 ghost use Rattle.views.specs.View.{shows_names};
 
 use crate::parts::Passage;
@@ -9,6 +10,26 @@ use itoa::Buffer;
 use request::View;
 use std::alloc::AllocError;
 use std::marker::Model;
+
+/// By which way the lines of a search were found.
+#[derive(Clone, Copy, Debug, PartialEq, Eq)]
+pub enum FoundBy {
+    /// By a compiled pattern.
+    Engine,
+    /// By the matcher alone, or no line was looked at.
+    Matcher,
+    /// By a simulation.
+    Simulation,
+}
+
+/// How long a search took, in microseconds.
+#[derive(Clone, Copy, Debug, PartialEq, Eq)]
+pub struct Times {
+    /// How long it was open and nobody worked for it.
+    pub waited: u64,
+    /// How long it was worked for.
+    pub worked: u64,
+}
 
 /// What a request shows of an answer. Where lines alone are shown, it keeps the names and bodies of their documents, and shares
 /// them with the index: they stay in memory until it is dropped.
@@ -39,6 +60,10 @@ pub struct ShownContents {
     pub documents: u32,
     /// The number of candidates among them.
     pub candidates: u32,
+    /// By which way the lines were found.
+    pub found_by: FoundBy,
+    /// How long the search took, if that is shown.
+    pub times: Option<Times>,
 }
 
 impl Model for Shown {
@@ -54,7 +79,7 @@ impl Model for Shown {
 impl Shown {
     ghost use Rattle.std.specs.Prelude.{◌≡◌, ◌++◌, OnOk, OnErr};
     ghost use Rattle.views.specs.Parts.{text_of_parts};
-    ghost use Rattle.views.specs.Shown.{text_of_head, text_of_rows_count, text_of_stats};
+    ghost use Rattle.views.specs.Shown.{text_of_head, text_of_rows_count, text_of_stats, text_of_times, timed};
     ghost use Rattle.views.specs.Text.{Begins};
     ghost use Rattle.views.specs.View.{shows_names};
 
@@ -102,6 +127,29 @@ impl Shown {
         self.contents.candidates
     }
 
+    /// By which way the lines were found.
+    pub fn found_by(&self) -> FoundBy
+        ensures { result ≡ self.now.found_by }
+    {
+        self.contents.found_by
+    }
+
+    /// How long the search took, if that is shown.
+    pub fn times(&self) -> Option<Times>
+        ensures { result ≡ self.now.times }
+    {
+        self.contents.times
+    }
+
+    /// The same, with its times.
+    pub fn with_times(self, times: Times) -> Shown
+        ensures { result ≡ timed times self }
+    {
+        let mut shown = self;
+        shown.contents.times = Some(times);
+        shown
+    }
+
     /// What is shown of lines.
     fn view(&self) -> View
         ensures { result ≡ self.now.view }
@@ -118,7 +166,8 @@ impl Shown {
 
     /// Appends the line of the search, `search K version V lines L`, where K is `search`: with `names` in place of
     /// `lines` if names are shown, with ` and more` if not all are shown, with ` rows R` if lines around them are
-    /// shown, and with ` candidates C of D` at its end if `stats`. What follows it is the text of `parts`.
+    /// shown, with ` candidates C of D` if `stats`, and, if it has times, with ` waited W worked U by WAY` at its end. What
+    /// follows it is the text of `parts`.
     ///
     /// An `Err` means that memory ran out; it can leave a beginning of the line in `out`.
     pub fn append_head(&self, search: u32, stats: bool, out: &mut Vec<u8>) -> Result<(), AllocError>
@@ -144,6 +193,7 @@ impl Shown {
         if stats {
             self.append_stats(out)?;
         }
+        self.append_times(out)?;
         append_all(out, &[b"\n".as_slice()])
     }
 
@@ -178,6 +228,40 @@ impl Shown {
                 documents.format(self.documents()).as_bytes(),
             ],
         )
+    }
+
+    /// Appends the times and the way, if it has times.
+    fn append_times(&self, out: &mut Vec<u8>) -> Result<(), AllocError>
+        ensures ok { OnOk result (out.new.items ≡ out.old.items ++ text_of_times self.now.found_by self.now.times) }
+        ensures err { OnErr result (out.new.items ≡ out.old.items) }
+    {
+        let Some(times) = self.times() else {
+            return Ok(());
+        };
+        let mut waited = Buffer::new();
+        let mut worked = Buffer::new();
+        append_all(
+            out,
+            &[
+                b" waited ".as_slice(),
+                waited.format(times.waited).as_bytes(),
+                b" worked ".as_slice(),
+                worked.format(times.worked).as_bytes(),
+                b" by ".as_slice(),
+                way_text(self.found_by()),
+            ],
+        )
+    }
+}
+
+/// The word for a way.
+fn way_text(found_by: FoundBy) -> &'static [u8]
+    ensures { result.now ≡ text_of_way found_by }
+{
+    match found_by {
+        FoundBy::Engine => b"engine",
+        FoundBy::Matcher => b"matcher",
+        FoundBy::Simulation => b"simulation",
     }
 }
 

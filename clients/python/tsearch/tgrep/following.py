@@ -72,7 +72,7 @@ class Following:
         """Notes a publish."""
         if not self._life:
             return
-        names = self._changed | (self._tree.files.held ^ self._held)
+        names = self._changed | (self._tree.files.held.keys() ^ self._held)
         is_new = published.life != self._life
         if is_new:
             self._begin(published.life, published.version)

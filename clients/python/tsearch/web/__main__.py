@@ -51,7 +51,7 @@ def _parser() -> argparse.ArgumentParser:
     add("--search-ms", type=_number(1, 4_294_967_295), default=Limits.search_ms, help="the time of a search, by default %(default)s")
     add("--most-searches", type=_number(1, 512), default=Limits.searches, help="searches at a time, by default %(default)s")
     add("--most-context", type=_number(0, 1_000), default=Limits.context, help="lines around a line, by default %(default)s")
-    add("--readers", type=_number(0, 16), help="threads that search each repository, by default 2")
+    add("--readers", type=_number(0, 16), help="threads that search, by default one for each processor")
     add("--look", type=float, default=5.0, metavar="SECONDS", help="look for changed files so often, by default %(default)s")
     add("--name", action="append", default=[], help="a host name under which the page may be called; once for each")
     add("--proxy", action="append", default=[], type=_network, metavar="ADDRESS", help="a proxy whose X-Forwarded-For says who asks; once for each")
@@ -59,7 +59,7 @@ def _parser() -> argparse.ArgumentParser:
     add("--log", metavar="FILE", help="write a JSON line for each request; - is standard output")
     add("--slow-ms", type=_number(0, 4_294_967_295), default=Settings.slow_ms, help="name the search there from so many milliseconds on, by default %(default)s")
     add("--cluster", metavar="ADDRESS", help="keep the documents on the workers of this Dask scheduler")
-    add("--shards", type=_number(1, 1_000), default=2, help="workers for each repository there, by default %(default)s")
+    add("--shards", type=_number(1, 1_000), default=2, help="over so many of these workers, by default %(default)s")
     return parser
 
 

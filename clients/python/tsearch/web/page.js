@@ -270,12 +270,10 @@ async function searchAll(words, own) {
 
 function showTotal(total) {
   const files = counted(results.querySelectorAll("section").length, "file");
-  const all = [...heads.values()];
-  const unloaded = all.filter((head) => head.loaded === false).map((head) => head.repository);
-  const parts = [unloaded.length ? ` Still loading: ${unloaded.join(", ")}.` : "", total.missing ? ` No answer of ${total.missing.join(", ")}.` : ""];
+  const missing = total.missing ? ` No answer of ${total.missing.join(", ")}.` : "";
   const first = total.all ? `the first ${total.lines.toLocaleString("en")} of ${counted(total.all, "line")}` : `the first ${counted(total.lines, "line")}`;
   const lines = `${total.more ? first : counted(total.lines, "line")} in ${files}${total.more && !total.all ? ", and there are more" : ""}`;
-  show((total.lines ? `${lines}, in ${Math.round(total.seconds * 1000)} ms.` : "No line matches.") + parts.join(""));
+  show((total.lines ? `${lines}, in ${Math.round(total.seconds * 1000)} ms.` : "No line matches.") + missing);
 }
 
 // Tells how many lines there are in all, once nothing is typed.

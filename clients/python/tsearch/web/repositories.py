@@ -1,24 +1,29 @@
-"""The repositories that are served: a session of its own for each, what is kept in it, and what its files were before."""
+"""The repositories that are served: the session that they share, what each keeps in it, and what its files were before.
+
+The names of a repository's documents begin with its number, a colon, the revision, which is empty for files of a working tree, and a colon.
+"""
 
 from __future__ import annotations
 
 import asyncio
+import collections
 import contextlib
 import dataclasses
+import itertools
 import os
-from collections.abc import Callable, Sequence
+from collections.abc import AsyncIterator, Callable, Sequence
 from dataclasses import dataclass
 from typing import TYPE_CHECKING, NamedTuple
 
 from .. import aio
 from ..answers import Answer, Published, Status
-from ..errors import Ended, Error
+from ..errors import Ended, Error, SearchRefused
 from ..folder import text_body
 from ..git import FILE_KINDS, Store
 from ..history import History
 from ..names import quote, to_bytes
 from ..paths import check, under
-from ..query import Query, document_pattern, escape
+from ..query import Query, document_pattern
 from ..repository import git_folder
 from ..tgrep import ere
 
@@ -30,6 +35,8 @@ _TO_PUBLISH = 5.0
 _TO_TELL = 1.0
 # So many reviews of a repository are open at a time.
 _MOST_REVIEWS = 4
+# Of so many publishes it is known of which commits they were.
+_MOST_COMMITS = 64
 
 
 class Filter(NamedTuple):
@@ -41,6 +48,14 @@ class Filter(NamedTuple):
 
 class Gone(Error):
     """A document is no longer known as it was at the version that is asked for, or is not to be seen."""
+
+
+class Unread(Error):
+    """A repository is still being read, or is read again, or cannot be read: `fault` says why. `is_soon` is False then."""
+
+    def __init__(self, fault: str = "") -> None:
+        super().__init__(fault or "it is still being read")
+        self.is_soon = not fault
 
 
 @dataclass(frozen=True)
@@ -59,7 +74,8 @@ class Served:
 
 
 class Found(NamedTuple):
-    """The answer of a repository: what was asked in which revision at which commit; both are empty for files of a working tree."""
+    """The answer of a repository: what was asked in which revision at which commit; both are empty for files of a working tree. The names
+    of its documents begin with `start`."""
 
     answer: Answer
     revision: str
@@ -67,24 +83,71 @@ class Found(NamedTuple):
     start: bytes
 
 
-class Repository:
-    """What is served, its session, and the task that keeps the one in the other."""
+class Shared:
+    """The session of all repositories, or a cluster in its place. A program that has ended is started again with nothing in it, and each
+    repository puts what it has."""
 
-    def __init__(self, served: Served, session: aio.Session | Cluster) -> None:
-        self.served = served
-        self.name = served.name
+    def __init__(self, session: aio.Session | Cluster, say: Callable[[str], None]) -> None:
         self.session = session
         self.restarts = 0
-        self.is_loaded = False
+        self.repositories: set[Repository] = set()
+        self._say = say
+        self._numbers = itertools.count(1)
+
+    def next_prefix(self) -> bytes:
+        """What the names of another repository's documents begin with. It is not given again."""
+        return b"%d:" % next(self._numbers)
+
+    async def find(self, query: Query) -> Answer:
+        """A search, with the errors of `Session.find`. While a shard of a cluster is lost it is refused at once, by `ShardLost`."""
+        if isinstance(self.session, aio.Session):
+            try:
+                return await self.session.find_query(query)
+            except Ended:
+                self._hint()
+                raise
+        return await self.session.find_query(query, waits=False)
+
+    async def start_again(self, ended: Ended) -> None:
+        """Starts the program again if it has ended. The errors are those of `Session.restart`."""
+        if await self.session.restart(_feed_nothing):
+            self.restarts += 1
+            self._say(f"{ended}; it is started again")
+            self._hint()
+
+    def _hint(self) -> None:
+        for repository in self.repositories:
+            repository.hint()
+
+    async def status(self) -> Status:
+        """What the session holds. `TimeoutError` if its program does not say so in a second, and `Ended`."""
+        async with asyncio.timeout(_TO_TELL):
+            return await self.session.status()
+
+
+async def _feed_nothing(_: object) -> None:
+    pass
+
+
+class Repository:
+    """What is served, and the task that keeps it in the session."""
+
+    def __init__(self, served: Served, shared: Shared) -> None:
+        self.served = served
+        self.name = served.name
+        self.shared = shared
+        self.prefix = shared.next_prefix()
         # what went wrong last, and is not mended
         self.fault = ""
         # how many files are loaded, and of how many
         self.progress = (0, 0)
         self.seconds = 0.0
         self._hint = asyncio.Event()
-        self._is_looking = False
-        self._life, self._version = 1, 0
-        self._published = asyncio.Condition()
+        self._is_leaving = False
+        # the program that has all of it, and from which version on
+        self._read: tuple[int, int] = (0, 0)
+        # the program of which publishes are noted
+        self._life = 0
 
     @property
     def kept(self) -> aio.Kept:
@@ -101,6 +164,19 @@ class Repository:
         """The commits of the revisions that there are; the first one is taken where none is asked for."""
         return {"": ""}
 
+    @property
+    def is_loaded(self) -> bool:
+        """Whether the program that runs has all of it."""
+        return self._read[0] == self.shared.session.life
+
+    def take(self, served: Served) -> bool:
+        """Serves this from the next look on. False if that is another repository, or has other files."""
+        if served.path != self.served.path or bool(served.revisions) != bool(self.served.revisions):
+            return False
+        self.served = served
+        self.hint()
+        return True
+
     def has_progress(self, done: int, of: int) -> None:
         """Notes how far it is loaded."""
         self.progress = (done, of)
@@ -110,127 +186,123 @@ class Repository:
         self._hint.set()
 
     async def keep(self, seconds: float, say: Callable[[str], None]) -> None:
-        """Keeps it in the session for ever: looks after each hint, and after so many seconds."""
-        while True:
-            self._hint.clear()
-            try:
-                await self._look()
-                self.fault = ""
-            except Ended as ended:
-                self._say(say, f"{ended}; the program is started again")
-                await self._restart(say)
-            except (Error, OSError) as error:
-                self._say(say, str(error))
-            with contextlib.suppress(TimeoutError):
-                async with asyncio.timeout(seconds):
-                    await self._hint.wait()
-                # an editor writes several times when it saves
-                await asyncio.sleep(0.05)
+        """Keeps it in the session until it is left: looks after each hint, and after so many seconds."""
+        self.shared.repositories.add(self)
+        try:
+            while not self._is_leaving:
+                self._hint.clear()
+                await self._look(say)
+                with contextlib.suppress(TimeoutError):
+                    async with asyncio.timeout(seconds):
+                        await self._hint.wait()
+                    # an editor writes several times when it saves
+                    await asyncio.sleep(0.05)
+        finally:
+            self.shared.repositories.discard(self)
 
-    def _say(self, say: Callable[[str], None], text: str) -> None:
-        """Says what is wrong, once for as long as it is."""
-        if text != self.fault:
-            say(f"{self.name}: {text}")
-        self.fault = text
+    async def leave(self, keeping: asyncio.Task[None]) -> None:
+        """Ends the task that keeps it, once that has done what it does, and removes its documents."""
+        self._is_leaving = True
+        self.hint()
+        await keeping
+        with contextlib.suppress(Error, OSError):
+            await self.kept.drop()
 
-    async def _look(self) -> None:
-        self._is_looking = True
+    async def _look(self, say: Callable[[str], None]) -> None:
         try:
             refreshed = await self.kept.refresh()
-            self._looked(refreshed.published)
-            if refreshed.published:
-                await self._note_version(refreshed.published)
-        finally:
-            self._is_looking = False
-            async with self._published:
-                self._published.notify_all()
-        self.is_loaded = True
+            self._begin(self.kept.life)
+            if not refreshed.published:
+                self._looked(None)
+            if self._read[0] != self.kept.life:
+                self._read = (self.kept.life, refreshed.published.version if refreshed.published else 0)
+            self.fault = ""
+        except Ended as ended:
+            try:
+                await self.shared.start_again(ended)
+            except (Error, OSError) as error:
+                self._fail(say, error)
+                await asyncio.sleep(1)
+            self.hint()
+        except (Error, OSError) as error:
+            self._fail(say, error)
+
+    def _fail(self, say: Callable[[str], None], error: Exception) -> None:
+        """Says what is wrong, once for as long as it is."""
+        if str(error) != self.fault:
+            say(f"{self.name}: {error}")
+        self.fault = str(error)
+        if self.kept.is_pending:
+            # the publish of another one may show a part of it
+            self._read = (0, 0)
+
+    def _begin(self, life: int) -> None:
+        """Notes that what follows is of another program, if it is."""
+        if life != self._life:
+            self._life = life
+            self._started()
+
+    def _started(self) -> None:
+        """Notes that a program has nothing of it."""
+
+    def _note(self, published: Published) -> None:
+        """Notes a publish, before anybody can see what it has published."""
+        self._begin(published.life)
+        self._looked(published)
 
     def _looked(self, published: Published | None) -> None:
         """Notes what a look has come to."""
 
-    async def _note_version(self, published: Published) -> None:
-        self._life, self._version = max((self._life, self._version), (published.life, published.version))
-        async with self._published:
-            self._published.notify_all()
-
-    async def _restart(self, say: Callable[[str], None]) -> None:
-        self.restarts += 1
-        self.is_loaded = False
-        try:
-            published = await self.kept.restart()
-            if published:
-                self._restarted()
-                self._looked(published)
-                await self._note_version(published)
-                self.is_loaded = True
-        except Error as error:
-            self._say(say, str(error))
-            await asyncio.sleep(1)
-
-    def _restarted(self) -> None:
-        """Notes that the program has been started again."""
-
-    async def _known(self, life: int, version: int) -> None:
-        """Waits until this task has been told of a version, whose answer may have come before, if it is one of a look that goes on."""
+    async def _settled(self) -> None:
+        """Waits for what a publish says that may have been carried out."""
+        if self.kept.settled.is_set():
+            return
         with contextlib.suppress(TimeoutError):
-            async with asyncio.timeout(_TO_PUBLISH), self._published:
-                await self._published.wait_for(lambda: not self._is_looking or (self._life, self._version) >= (life, version))
+            async with asyncio.timeout(_TO_PUBLISH):
+                await self.kept.settled.wait()
 
-    async def find(self, query: Query, revision: str, own: Filter, is_one_of_many: bool = False) -> Found:
-        """A search in a revision, with the errors of `Session.find`, and `Gone` if there is no such revision. Patterns of paths are for paths
-        in the repository. Of many repositories most have no line, and are asked for that first. While a shard of a cluster is lost the
-        search is refused at once, by `ShardLost`."""
+    def start(self, revision: str) -> tuple[str, bytes]:
+        """The revision that is searched, and what the names of its documents begin with. `Gone` if there is none, and `Unread`."""
+        if not self.is_loaded:
+            raise Unread(self.fault)
+        revision = self._revision(revision)
+        return revision, self.prefix + to_bytes(revision) + b":"
+
+    def _revision(self, revision: str) -> str:
         raise NotImplementedError
 
-    async def _found(self, query: Query, is_one_of_many: bool) -> Answer:
-        if is_one_of_many and not query.header_only:
-            asked = dataclasses.replace(query, context=None, spans=False, header_only=True, limit=1)
-            any_line = await self._find(asked)
-            if not any_line.count:
-                return dataclasses.replace(any_line, view=query.view, spans_data=b"" if query.spans else None)
-        return await self._find(query)
+    async def found(self, answer: Answer, revision: str, start: bytes) -> Found:
+        """What it answers, of an answer of the session. `Unread` if that is of a program that had not all of it."""
+        await self._settled()
+        if answer.life != self._read[0] or answer.version < self._read[1]:
+            raise Unread
+        return Found(answer, revision, self._commit_at(revision, answer.version), start)
 
-    async def _find(self, query: Query) -> Answer:
-        if isinstance(self.session, aio.Session):
-            return await self.session.find_query(query)
-        return await self.session.find_query(query, waits=False)
-
-    async def _checked(self, query: Query, own: Filter) -> tuple[list[bytes], list[bytes]]:
-        """The patterns of paths of a visitor and of the host, which the program takes. `PatternRefused` with the number among all of them."""
-        names = [*query.names, *map(to_bytes, own.names)]
-        not_names = [*query.not_names, *map(to_bytes, own.not_names)]
-        if names or not_names:
-            await self._find(check(names, not_names))
-        return names, not_names
+    def _commit_at(self, revision: str, version: int) -> str:
+        return ""
 
     async def admits(self, own: Filter, path: bytes) -> bool:
         """Whether a path may be seen."""
         if not any(own):
             return True
-        names, not_names = await self._checked(Query(b""), own)
+        names, not_names = ([to_bytes(one) for one in patterns] for patterns in own)
+        await self.shared.find(check(names, not_names))
         wanted, unwanted = ([ere.names(under(one, b"")).has for one in patterns] for patterns in (names, not_names))
         return all(test(quote(path)) for test in wanted) and not any(test(quote(path)) for test in unwanted)
-
-    async def status(self) -> Status:
-        """What the session holds. `TimeoutError` if its program does not say so in a second, and `Ended`."""
-        async with asyncio.timeout(_TO_TELL):
-            return await self.session.status()
-
-    async def close(self) -> None:
-        """Ends the session."""
-        await self.session.close(2.0)
 
 
 class Files(Repository):
     """The files of a working tree."""
 
-    def __init__(self, served: Served, session: aio.Session | Cluster) -> None:
-        super().__init__(served, session)
-        # of this life of the program, up to this version
+    def __init__(self, served: Served, shared: Shared) -> None:
+        super().__init__(served, shared)
+        # of this life of the program
         self._history = History()
         self._changed: set[bytes] = set()
-        self._folder = aio.Folder(session, served.path, progress=self.has_progress, before_change=self._keep)
+        self._start = self.prefix + b":"
+        self._folder = aio.Folder(
+            shared.session, served.path, prefix=self._start, progress=self.has_progress, before_change=self._keep, published=self._note
+        )
 
     @property
     def kept(self) -> aio.Folder:
@@ -247,30 +319,32 @@ class Files(Repository):
             self._history.publish(self._changed, published.version)
             self._changed = set()
 
-    def _restarted(self) -> None:
+    def _started(self) -> None:
         self._history, self._changed = History(), set()
 
     async def _keep(self, name: bytes) -> None:
-        if name not in self._changed:
-            self._changed.add(name)
-            self._history.change(name, await self._whole(name))
+        if name in self._changed:
+            return
+        try:
+            before = await self._whole(name)
+        except SearchRefused:
+            before = None  # it is too long, or took too long: it cannot be shown as it was
+        self._changed.add(name)
+        self._history.change(name, before)
 
     async def _whole(self, name: bytes) -> Answer:
-        return await self._find(Query(b"", names=(document_pattern(name),)))
+        return await self.shared.find(Query(b"", names=(document_pattern(name),)))
 
-    async def find(self, query: Query, revision: str, own: Filter, is_one_of_many: bool = False) -> Found:
-        """A search in the files."""
+    def _revision(self, revision: str) -> str:
         if revision:
             raise Gone("there are no revisions, but the files of a folder")
-        names, not_names = await self._checked(query, own)
-        sent = _with_paths(query, [under(one, b"") for one in names], [under(one, b"") for one in not_names])
-        return Found(await self._found(sent, is_one_of_many), "", "", b"")
+        return ""
 
-    async def view(self, name: bytes, life: int, version: int) -> Answer:
-        """All lines of a document as it was at the version of an answer. `Gone` if it has changed and is not kept, or if the program was
-        started again since; otherwise the errors of `find`."""
-        await self._known(life, version)
-        history = self._history
+    async def view(self, path: bytes, life: int, version: int) -> Answer:
+        """All lines of a file as it was at the version of an answer. `Gone` if it has changed and is not kept, or if the program was
+        started again since; otherwise the errors of `Shared.find`."""
+        await self._settled()
+        name, history = self._start + path, self._history
         if life == self._life:
             found = history.at(name, version)
             if found is None and history.is_current(name, version):
@@ -281,23 +355,27 @@ class Files(Repository):
                 return found
         raise Gone("the file has changed since this search")
 
-    async def now(self, name: bytes) -> Answer:
-        """All lines of a document as it is."""
-        return await self._whole(name)
+    async def now(self, path: bytes) -> Answer:
+        """All lines of a file as it is."""
+        return await self._whole(self._start + path)
 
 
 class Objects(Repository):
     """Revisions of a repository by its objects."""
 
-    def __init__(self, served: Served, session: aio.Session | Cluster) -> None:
-        super().__init__(served, session)
-        self._revisions = aio.Revisions(session, served.path, served.revisions, progress=self.has_progress)
+    def __init__(self, served: Served, shared: Shared) -> None:
+        super().__init__(served, shared)
+        self._revisions = aio.Revisions(
+            shared.session, served.path, served.revisions, prefix=self.prefix, progress=self.has_progress, published=self._note
+        )
         self.store: Store = self._revisions.objects.store
         # the commits from each version on
         self._commits: list[tuple[int, dict[str, str]]] = [(0, {})]
         # all that were served: a link to a line stays one
         self._seen: set[str] = set()
+        # the last ones that were asked for, and how many searches there are in each
         self._reviews: dict[tuple[str, str], asyncio.Task[aio.Review]] = {}
+        self._searched: collections.Counter[tuple[str, str]] = collections.Counter()
 
     @property
     def kept(self) -> aio.Revisions:
@@ -314,31 +392,41 @@ class Objects(Repository):
         """The commits of the revisions that are published."""
         return self._commits[-1][1]
 
+    def take(self, served: Served) -> bool:
+        """Serves this from the next look on. What is served stays until then."""
+        is_taken = super().take(served)
+        if is_taken:
+            self._revisions.objects.wanted = served.revisions
+        return is_taken
+
+    async def leave(self, keeping: asyncio.Task[None]) -> None:
+        """Ends the reviews too."""
+        await super().leave(keeping)
+        for task in self._reviews.values():
+            task.add_done_callback(_close_review)
+        self._reviews.clear()
+
     def _looked(self, published: Published | None) -> None:
         commits = dict(self._revisions.objects.commits)
         self._seen.update(commits.values())
-        if published:
-            self._commits = [*self._commits[-8:], (published.version, commits)]
-        elif commits != self._commits[-1][1]:
-            self._commits.append((self._commits[-1][0], commits))  # it has the same files
+        if published or commits != self._commits[-1][1]:
+            # without a publish they have the same files
+            version = published.version if published else self._commits[-1][0]
+            self._commits = [*self._commits[-_MOST_COMMITS:], (version, commits)]
 
-    def _restarted(self) -> None:
+    def _started(self) -> None:
         self._commits = [(0, {})]
 
-    async def find(self, query: Query, revision: str, own: Filter, is_one_of_many: bool = False) -> Found:
-        """A search in a revision, by default the first one."""
+    def _revision(self, revision: str) -> str:
         commits = self.revisions
         revision = revision or next(iter(commits), "")
         if revision not in commits:
             raise Gone(f"there is no {revision}" if revision else "there is no commit yet")
-        names, not_names = await self._checked(query, own)
-        start = to_bytes(revision) + b":"
-        head = escape(quote(start))
-        sent = _with_paths(query, [under(one, head) for one in names] or [b"^" + head], [under(one, head) for one in not_names])
-        answer = await self._found(sent, is_one_of_many)
-        await self._known(answer.life, answer.version)
-        known = [found for version, found in self._commits if version <= answer.version]
-        return Found(answer, revision, known[-1].get(revision, "") if known else "", start)
+        return revision
+
+    def _commit_at(self, revision: str, version: int) -> str:
+        known = [found for first, found in self._commits if first <= version]
+        return known[-1].get(revision, "") if known else ""
 
     async def _is_served(self, commit: str) -> bool:
         """Whether a commit was served, or leads to one that is."""
@@ -374,23 +462,23 @@ class Objects(Repository):
             raise Gone(f"{name} is no commit that is served")
         return found
 
-    async def review(self, before: str, after: str) -> aio.Review:
-        """The review of a patch between two commits. The last ones are kept."""
+    @contextlib.asynccontextmanager
+    async def review(self, before: str, after: str) -> AsyncIterator[aio.Review]:
+        """The review of a patch between two commits, for as long as the block lasts. The last ones are kept."""
         pair = (before, after)
-        task = self._reviews.pop(pair, None) or asyncio.create_task(aio.Review.open(self.session, self.store.path, before, after))
+        task = self._reviews.pop(pair, None) or asyncio.create_task(aio.Review.open(self.shared.session, self.store.path, before, after))
         self._reviews[pair] = task
-        for other in list(self._reviews)[:-_MOST_REVIEWS]:
-            old = self._reviews.pop(other)
-            old.add_done_callback(_close_review)
+        self._searched[pair] += 1
         try:
-            review = await asyncio.shield(task)
-            if review.published:
-                await self._note_version(review.published)
-            return review
-        except BaseException:
-            if task.done() and self._reviews.get(pair) is task:
-                del self._reviews[pair]
-            raise
+            yield await asyncio.shield(task)
+        finally:
+            self._searched[pair] -= 1
+            has_failed = task.done() and (task.cancelled() or task.exception() is not None)
+            old = [one for one in self._reviews if not self._searched[one]][: max(len(self._reviews) - _MOST_REVIEWS, 0)]
+            for one in [pair] * has_failed + old:
+                if closed := self._reviews.pop(one, None):
+                    closed.add_done_callback(_close_review)
+            self._searched += collections.Counter()  # those of none go
 
 
 _closing: set[asyncio.Task[None]] = set()
@@ -408,13 +496,9 @@ async def _closed(review: aio.Review) -> None:
         await review.close()
 
 
-def _with_paths(query: Query, names: Sequence[bytes], not_names: Sequence[bytes]) -> Query:
-    return dataclasses.replace(query, names=tuple(names), not_names=tuple(not_names))
-
-
-def repository_of(served: Served, session: aio.Session | Cluster) -> Repository:
+def repository_of(served: Served, shared: Shared) -> Repository:
     """The repository for what is served. `NoRepository` if revisions are asked for and there is none."""
-    return Objects(served, session) if served.revisions else Files(served, session)
+    return Objects(served, shared) if served.revisions else Files(served, shared)
 
 
 def served_of(roots: Sequence[str], revisions: Sequence[str] = (), link: str = "") -> list[Served]:

@@ -7,19 +7,18 @@ import collections
 import contextlib
 import dataclasses
 import importlib.resources
-import itertools
 import json
-import re
+import os
 import time
 import urllib.parse
-from collections.abc import AsyncIterator, Awaitable, Callable, Iterator, Sequence
+from collections.abc import AsyncIterator, Awaitable, Callable, Sequence
 from dataclasses import dataclass
 from typing import Any
 
 from aiohttp import web
 
 from .. import aio
-from ..answers import Answer, spans_of
+from ..answers import Answer
 from ..errors import Cancelled, Ended, Error, OptionRefused, PatternRefused, SearchRefused, TooSlow
 from ..merging import cut
 from ..names import to_bytes, unquote
@@ -28,8 +27,11 @@ from ..review import Found as Reviewed
 from ..review import Line
 from ..shortening import LONGEST, shortened
 from ..watching import hints
+from .marks import marks_of
 from .measures import Histogram, Log, Metrics, memory_of
-from .repositories import Files, Filter, Found, Gone, Objects, Repository, Served, repository_of
+from .repositories import Files, Filter, Found, Gone, Objects, Repository, Served, Shared, Unread, repository_of
+from .rows import BLOCK, blocks_of, id_of
+from .searching import GRACE, Search
 from .settings import Limits, Settings, read_served
 from .visitors import TooMany, Visitors
 
@@ -49,16 +51,17 @@ _FILES = {
     "/icon.svg": ("icon.svg", "image/svg+xml"),
 }
 _OWN_SITE = ("none", "same-origin")
-_NUMBER = re.compile(rb"(\d+)([:-])")
-# In bytes: an answer whose spans take more, without the texts, is shown without marks.
-_MOST_SPANS = 1 << 20
-_BLOCK = 1 << 16
+# In bytes: so much is written at a time, if there is more than that.
+_WRITTEN = 1 << 18
+# In bytes: an answer that is longer is worked on in a thread, with which this one has to share the interpreter.
+_LARGE = 1 << 20
+_MOST_READERS = 16
+_LONGEST_LANE = 64
 # How often it is seen whether a visitor has gone, in seconds.
 _OFTEN = 0.2
-# In seconds: how much longer than a search may take a program may be silent.
-_GRACE = 1.0
-# Where more repositories are searched, most have no line.
-_FEW = 4
+# A repository, the filter of the host, and what it answers or with what it fails.
+_Outcome = tuple[Repository, Filter, Any]
+_written = json.JSONEncoder(separators=(",", ":")).encode
 _OUTCOMES = ("answered", "refused", "too slow", "cancelled", "left", "ended", "too many")
 
 
@@ -127,11 +130,22 @@ def _words_of(request: web.Request) -> dict[str, list[str]]:
 
 
 class _Kept:
-    """A repository that is served, and what ends it."""
+    """A repository that is served, the task that keeps it, and what ends the hints."""
 
-    def __init__(self, repository: Repository, stack: contextlib.AsyncExitStack) -> None:
+    def __init__(self, repository: Repository, task: asyncio.Task[None], stack: contextlib.ExitStack) -> None:
         self.repository = repository
+        self.task = task
         self.stack = stack
+
+    async def leave(self) -> None:
+        """Ends all of it, and removes its documents."""
+        await asyncio.to_thread(self.stack.close)
+        await self.repository.leave(self.task)
+
+    async def end(self) -> None:
+        """Ends all of it at once, before the session."""
+        self.stack.close()
+        await _end_task(self.task)
 
 
 class Server:
@@ -142,9 +156,13 @@ class Server:
         self._say = say
         self._kept: dict[str, _Kept] = {}
         self._changing = asyncio.Lock()
-        self._start: Callable[[], Awaitable[Any]] | None = None
+        # of repositories that are served no longer
+        self._leaving: set[asyncio.Task[None]] = set()
+        self._shared: Shared
         self._client: Any = None
         self._running: dict[str, tuple[int, asyncio.Task[web.StreamResponse]]] = {}
+        # the answers that are made, each with who asked
+        self._asked: dict[asyncio.Task[web.StreamResponse], web.Request] = {}
         self._turns = asyncio.Semaphore(settings.limits.searches)
         self._visitors = Visitors(settings.proxies)
         self._outcomes: collections.Counter[str] = collections.Counter()
@@ -170,31 +188,37 @@ class Server:
     # What is served.
 
     async def _run(self, application: web.Application) -> AsyncIterator[None]:
-        """Starts the sessions, keeps the repositories in them, and ends them."""
+        """Starts the session, keeps the repositories in it, and ends it."""
         async with contextlib.AsyncExitStack() as stack:
-            self._start = await self._starter(stack)
-            stack.push_async_callback(self._serve, ())
+            session = await self._session(stack)
+            self._shared = Shared(session, self._say)
+            stack.push_async_callback(session.close, 2.0)
+            stack.push_async_callback(self._end)
+            stack.push_async_callback(_end_task, asyncio.create_task(self._watch()))
             await self._serve(self._settings.served)
             yield
 
-    async def _starter(self, stack: contextlib.AsyncExitStack) -> Callable[[], Awaitable[Any]]:
-        """What starts a session, or a cluster in the place of one."""
+    async def _session(self, stack: contextlib.AsyncExitStack) -> Any:
+        """The session, or a cluster in its place."""
         settings = self._settings
         limits = settings.limits
-        options: dict[str, Any] = {"readers": settings.readers, "search_ms": limits.search_ms, "max_answer": limits.answer}
+        readers = min(os.cpu_count() or 2, _MOST_READERS) if settings.readers is None else settings.readers
+        options: dict[str, Any] = {"readers": readers, "search_ms": limits.search_ms, "max_answer": limits.answer}
         if settings.cluster is None:
-            return lambda: aio.Session.start(**options)
+            return await aio.Session.start(**options)
         from distributed import Client
 
         from ..cluster import Cluster
 
         make: Any = Client
         self._client = await stack.enter_async_context(make(settings.cluster, asynchronous=True, direct_to_workers=True))
+        return Cluster(self._client, settings.shards, **options)
 
-        async def start() -> Cluster:
-            return Cluster(self._client, settings.shards, **options)
-
-        return start
+    async def _end(self) -> None:
+        for task in list(self._leaving):
+            await _end_task(task)
+        for kept in self._kept.values():
+            await kept.end()
 
     async def read_again(self) -> None:
         """Reads the file of settings again, and serves what it says now; what has not changed goes on. A file with a fault changes nothing.
@@ -211,39 +235,42 @@ class Server:
         """Serves these repositories, and no others."""
         async with self._changing:
             now = {served.name: served for served in wanted}
-            for name in [name for name, kept in self._kept.items() if now.get(name) != kept.repository.served]:
-                await self._kept.pop(name).stack.aclose()
+            for name, kept in list(self._kept.items()):
+                served = now.get(name)
+                if served is None or (served != kept.repository.served and not kept.repository.take(served)):
+                    self._leave(self._kept.pop(name))
             for name, served in now.items():
                 if name not in self._kept:
-                    await self._add(served)
+                    self._add(served)
             self._kept = {name: self._kept[name] for name in now if name in self._kept}
             needed, there = await self._workers()
             if needed > there:
-                self._say(f"{needed} workers are needed for {len(self._kept)} repositories of {self._settings.shards} shards, and there are {there}")
+                self._say(f"{needed} workers are needed for {needed} shards, and there are {there}")
 
-    async def _add(self, served: Served) -> None:
-        assert self._start
-        async with contextlib.AsyncExitStack() as stack:
-            session = await self._start()
-            stack.push_async_callback(session.close, 2.0)
-            try:
-                repository = repository_of(served, session)
-            except Error as error:
-                self._say(f"{served.name}: {error}")
-                return
-            task = asyncio.create_task(repository.keep(self._settings.look, self._say))
-            stack.push_async_callback(_end_task, task)
-            loop = asyncio.get_running_loop()
-            changed = lambda: loop.call_soon_threadsafe(repository.hint)  # noqa: E731
+    def _add(self, served: Served) -> None:
+        try:
+            repository = repository_of(served, self._shared)
+        except Error as error:
+            self._say(f"{served.name}: {error}")
+            return
+        task = asyncio.create_task(repository.keep(self._settings.look, self._say))
+        loop = asyncio.get_running_loop()
+        changed = lambda: loop.call_soon_threadsafe(repository.hint)  # noqa: E731
+        with contextlib.ExitStack() as stack:
             stack.enter_context(hints(repository.roots, changed, of_git=bool(served.revisions)))
-            self._kept[served.name] = _Kept(repository, stack.pop_all())
+            self._kept[served.name] = _Kept(repository, task, stack.pop_all())
+
+    def _leave(self, kept: _Kept) -> None:
+        task = asyncio.create_task(kept.leave())
+        self._leaving.add(task)
+        task.add_done_callback(self._leaving.discard)
 
     async def _workers(self) -> tuple[int, int]:
         """How many workers of a cluster are needed, and how many there are."""
         if self._client is None:
             return 0, 0
         there = len((await self._client.scheduler.identity())["workers"])
-        return self._settings.shards * len(self._kept), there
+        return self._settings.shards, there
 
     @property
     def _repositories(self) -> list[Repository]:
@@ -260,8 +287,9 @@ class Server:
 
     @web.middleware
     async def _logged(self, request: web.Request, handler: Callable[[web.Request], Awaitable[web.StreamResponse]]) -> web.StreamResponse:
-        """Writes a line of the log for each request."""
+        """Writes a line of the log for each request, and notes who asks."""
         began, status, length = time.monotonic(), 0, 0
+        request["address"] = self._visitors.address_of(request)
         try:
             response = await handler(request)
             status, length = response.status, response.body_length
@@ -273,7 +301,7 @@ class Server:
             seconds = time.monotonic() - began
             more = {"query": _shown_query(request)} if seconds * 1_000 >= self._settings.slow_ms and request.path.startswith("/api/") else {}
             self._log.write(
-                address=self._visitors.address_of(request), method=request.method, path=request.path[:1_000], status=status, bytes=length,
+                address=_address_of(request), method=request.method, path=request.path[:1_000], status=status, bytes=length,
                 seconds=round(seconds, 4), **({"slow": True, **more} if more else {}),
             )  # fmt: skip
 
@@ -309,18 +337,16 @@ class Server:
     async def _while_wanted(self, request: web.Request, asked: Asked, answer: Any) -> web.StreamResponse:
         """Makes an answer for as long as its visitor waits for it."""
         task: asyncio.Task[web.StreamResponse] = asyncio.create_task(answer)
+        self._asked[task] = request
         self._replace_search(asked, task)
         try:
-            while not task.done():
-                await asyncio.wait([task], timeout=_OFTEN)
-                if request.transport is None or request.transport.is_closing():
-                    task.cancel()
+            await asyncio.wait([task])
             return task.result()
         except asyncio.CancelledError:
             task.cancel()
             self._outcomes["cancelled"] += 1
             own = asyncio.current_task()
-            if "begun" in request or request.transport is None or (own and own.cancelling()):
+            if "begun" in request or _has_left(request) or (own and own.cancelling()):
                 raise
             return _lines_of({"refused": "cancelled"}, status=409)
         except TooMany:
@@ -330,8 +356,17 @@ class Server:
             self._outcomes["left"] += 1
             raise asyncio.CancelledError from None  # which aiohttp takes as what it is
         finally:
+            del self._asked[task]
             if self._running.get(asked.visitor) == (asked.turn, task):
                 del self._running[asked.visitor]
+
+    async def _watch(self) -> None:
+        """Cancels the answers of visitors who have gone."""
+        while True:
+            await asyncio.sleep(_OFTEN)
+            for task, request in self._asked.items():
+                if _has_left(request):
+                    task.cancel()
 
     def _replace_search(self, asked: Asked, task: asyncio.Task[web.StreamResponse]) -> None:
         """A visitor who types has one search: of two, which may come in any order, the one of the earlier turn is cancelled."""
@@ -345,31 +380,17 @@ class Server:
             before.cancel()
         self._running[asked.visitor] = asked.turn, task
 
-    async def _outcomes_of(self, request: web.Request, asked: Asked, query: Query) -> list[tuple[Repository, Filter, Found | Exception]]:
+    async def _outcomes_of(self, request: web.Request, asked: Asked, made: Callable[[Search], Awaitable[Sequence[Any]]]) -> list[_Outcome]:
         """What each repository answers, or with what it fails."""
         chosen = [(found, own) for found, own in self._seen_by(request) if not asked.repositories or found.name in asked.repositories]
-        async with self._visitors.turn(self._visitors.address_of(request)), self._turns:
-            async with asyncio.TaskGroup() as group:
-                many = len(chosen) > _FEW
-                tasks = [group.create_task(self._outcome(found, query, asked.revision, own, many)) for found, own in chosen]
-        return [(repository, own, task.result()) for (repository, own), task in zip(chosen, tasks)]
-
-    async def _outcome(self, repository: Repository, query: Query, revision: str, own: Filter, many: bool) -> Found | Exception:
-        """What comes of a search, so that a refusal does not cancel those of other repositories in the middle."""
-        began = time.monotonic()
-        try:
-            async with asyncio.timeout(self._settings.limits.search_ms / 1_000 + _GRACE):
-                return await repository.find(query, revision, own, many)
-        except TimeoutError:
-            return TooSlow("too slow")
-        except Error as fault:
-            return fault
-        finally:
-            repository.seconds += time.monotonic() - began
+        query = dataclasses.replace(asked.query, lane=_lane_of(request))
+        async with self._visitors.turn(_address_of(request)), self._turns:
+            outcomes = await made(Search(self._shared, chosen, query, asked.revision, self._settings.limits.search_ms))
+        return [(repository, own, outcome) for (repository, own), outcome in zip(chosen, outcomes, strict=True)]
 
     async def _answer(self, request: web.Request, asked: Asked) -> web.StreamResponse:
         began = time.monotonic()
-        outcomes = await self._outcomes_of(request, asked, asked.query)
+        outcomes = await self._outcomes_of(request, asked, Search.find)
         self._seconds.add(time.monotonic() - began)
         refusal = self._refusal_of_all(outcomes, asked)
         if refusal is not None:
@@ -377,7 +398,7 @@ class Server:
         self._outcomes["answered"] += 1
         return await self._write(request, asked, outcomes, began)
 
-    def _refusal_of_all(self, outcomes: list[tuple[Repository, Filter, Any]], asked: Asked) -> web.Response | None:
+    def _refusal_of_all(self, outcomes: list[_Outcome], asked: Asked) -> web.Response | None:
         """The refusal of a search that cannot be read, or that no repository answers."""
         faults = [(own, found) for _, own, found in outcomes if isinstance(found, Exception)]
         for own, fault in faults:
@@ -408,21 +429,22 @@ class Server:
                 return "refused", {"fault": fault.reason}
             case Gone():
                 return "refused", {"fault": str(fault)}
+            case Unread():
+                return "ended", {"fault": str(fault), "again": fault.is_soon}
             case Ended():
                 return "ended", {"fault": "the program starts again", "again": True}
             case Error():  # as of a shard that is lost
                 return "ended", {"fault": str(fault), "again": True}
         raise fault
 
-    async def _write(
-        self, request: web.Request, asked: Asked, outcomes: list[tuple[Repository, Filter, Found | Exception]], began: float
-    ) -> web.StreamResponse:
+    async def _write(self, request: web.Request, asked: Asked, outcomes: list[_Outcome], began: float) -> web.StreamResponse:
         """Writes the answers, a line for each repository and for each document with its hits, and one at the end."""
-        response = web.StreamResponse(headers={"Content-Type": _LINES, **_HEADERS})
+        response = web.StreamResponse(headers={"Content-Type": _LINES})
         request["begun"] = True
         await response.prepare(request)
         counts = [found.answer.count if isinstance(found, Found) else 0 for _, _, found in outcomes]
         lines, has_more, missing, waiting = 0, False, [], b""
+        marks = marks_of(asked.query)
         for (repository, _, found), share in zip(outcomes, shares(counts, asked.limit)):
             if isinstance(found, Exception):
                 missing.append(repository.name)
@@ -430,26 +452,26 @@ class Server:
                 continue
             answer = found.answer
             if answer.count > share:
-                answer = await asyncio.to_thread(cut, answer, share, asked.query.context or 0)
+                answer = await _worked(answer, cut, answer, share, asked.query.context or 0)
             lines, has_more = lines + answer.count, has_more or answer.more
-            waiting += _json(_head_of(repository, found, answer))
-            rows = (_json({"repository": repository.name, **row}) for row in _documents(answer, asked.is_whole, found.start))
-            while answer.count and (block := await _some_of(rows, len(answer.data))):
-                await response.write(waiting + block)
-                waiting = b""
+            waiting += _json(_head_of(repository.name, found, answer))
+            blocks = blocks_of(answer, repository.name, asked.is_whole, found.start, marks)
+            while block := await _worked(answer, next, blocks, b""):
+                waiting += block
+                if len(waiting) > _WRITTEN:
+                    await response.write(waiting)
+                    waiting = b""
         total: dict[str, object] = {"lines": lines, "more": has_more, "seconds": round(time.monotonic() - began, 4)}
-        await response.write(waiting + _json(total | ({"missing": missing} if missing else {})))
-        await response.write_eof()
+        await response.write_eof(waiting + _json(total | ({"missing": missing} if missing else {})))
         return response
 
     async def _answer_count(self, request: web.Request, asked: Asked) -> web.StreamResponse:
         """How many lines each repository has in all."""
-        query = dataclasses.replace(asked.query, limit=None, context=None, spans=False, header_only=True)
-        outcomes = await self._outcomes_of(request, asked, query)
+        outcomes = await self._outcomes_of(request, asked, Search.count)
         refusal = self._refusal_of_all(outcomes, asked)
         if refusal is not None:
             return refusal
-        counts = {repository.name: found.answer.count for repository, _, found in outcomes if isinstance(found, Found)}
+        counts = {repository.name: found for repository, _, found in outcomes if isinstance(found, int)}
         return web.json_response({"counts": counts})
 
     async def _answer_review(self, request: web.Request, asked: Asked) -> web.StreamResponse:
@@ -459,10 +481,10 @@ class Server:
         repository, own = self._one(request, words.get("repository", ""))
         if not isinstance(repository, Objects):
             return self._refusal(Gone("there are no revisions of it"))
-        async with self._visitors.turn(self._visitors.address_of(request)), self._turns:
+        async with self._visitors.turn(_address_of(request)), self._turns:
             try:
-                async with asyncio.timeout(self._settings.limits.search_ms / 1_000 + _GRACE):
-                    found, commits = await _reviewed(repository, asked, words, own)
+                async with asyncio.timeout(self._settings.limits.search_ms / 1_000 + GRACE):
+                    found, commits = await _reviewed(repository, asked, words, own, _lane_of(request))
             except TimeoutError:
                 return self._refusal(TooSlow("too slow"), asked)
             except Error as fault:
@@ -471,7 +493,7 @@ class Server:
         self._outcomes["answered"] += 1
         body = _json({"repository": repository.name, **commits})
         for file in found.files:
-            sides = {side: {"name": _shown(path), "id": _id_of(path)} for side, path in (("before", file.before), ("after", file.after)) if path is not None}
+            sides = {side: {"name": _shown(path), "id": id_of(path)} for side, path in (("before", file.before), ("after", file.after)) if path is not None}
             body += _json({**sides, "hits": [_review_row(line, asked.is_whole) for line in file.lines]})
         counts = {word: found.count(sign) for word, sign in (("removed", "-"), ("added", "+"), ("left", " "))}
         body += _json({**counts, "more": found.more, "seconds": round(time.monotonic() - began, 4)})
@@ -509,7 +531,7 @@ class Server:
         is_whole = "whole" in words
         is_cut = not is_whole and any(len(line) > LONGEST for line in lines)
         shown = [_shown(line if is_whole else shortened(line, ())[0]) for line in lines]
-        told: dict[str, object] = {"repository": repository.name, "name": _shown(name), "id": _id_of(name), "lines": shown, **place}
+        told: dict[str, object] = {"repository": repository.name, "name": _shown(name), "id": id_of(name), "lines": shown, **place}
         return web.json_response({**told, **({"cut": True} if is_cut else {})})
 
     async def _status(self, request: web.Request) -> web.Response:
@@ -519,20 +541,21 @@ class Server:
             one: dict[str, object] = {"repository": repository.name, "loaded": repository.is_loaded, "left_out": len(left_out)}
             one["left_out_for"] = dict(collections.Counter(left_out.values()))
             one["revisions"] = [{"name": name, "commit": commit} for name, commit in repository.revisions.items() if name]
+            one["documents"], one["bytes"] = repository.kept.totals
             if repository.served.link:
                 one["link"] = repository.served.link
             if repository.fault:
                 one["fault"] = repository.fault
-            with contextlib.suppress(Ended, TimeoutError):
-                status = await repository.status()
-                one.update(version=status.version, documents=status.documents, bytes=status.bytes)
             if not repository.is_loaded:
                 one["done"], one["of"] = repository.progress
             told.append(one)
-        limits = self._settings.limits
+        limits, more = self._settings.limits, {}
+        with contextlib.suppress(Ended, TimeoutError):
+            more["version"] = (await self._shared.status()).version
         needed, there = await self._workers()
-        workers = {"workers": {"needed": needed, "there": there}} if needed else {}
-        return web.json_response({"repositories": told, "lines": limits.lines, "context": limits.context, **workers})
+        if needed:
+            more["workers"] = {"needed": needed, "there": there}
+        return web.json_response({"repositories": told, "lines": limits.lines, "context": limits.context, **more})
 
     async def _look(self, request: web.Request) -> web.Response:
         """A hint that something has changed: a hook after a push sends it."""
@@ -549,24 +572,24 @@ class Server:
 
     async def _metrics(self, request: web.Request) -> web.Response:
         """In the text form of Prometheus, version 0.0.4."""
-        rows = Metrics()
+        rows, session = Metrics(), self._shared.session
+        rows.add("tsearch_up", "gauge", "Whether the program runs.", 0, {})
+        with contextlib.suppress(Ended, TimeoutError):
+            status = await self._shared.status()
+            rows.add("tsearch_up", "gauge", "", 1, {})
+            rows.add("tsearch_version", "gauge", "The version that is published.", status.version, {})
+            rows.add("tsearch_accepted", "gauge", "Puts, loads and removes in this life of the program.", status.accepted, {})
+            rows.add("tsearch_open_searches", "gauge", "Searches without an entry.", status.open, {})
+        rows.add("tsearch_memory_bytes", "gauge", "Memory of the program.", memory_of([getattr(session, "pid", None)]), {})
+        rows.add("tsearch_restarts_total", "counter", "Programs started again.", self._shared.restarts + getattr(session, "heals", 0), {})
         for repository in self._repositories:
             label = {"repository": repository.name}
-            rows.add("tsearch_up", "gauge", "Whether the program runs.", 0, label)
-            with contextlib.suppress(Ended, TimeoutError):
-                status = await repository.status()
-                rows.add("tsearch_up", "gauge", "", 1, label)
-                rows.add("tsearch_version", "gauge", "The version that is published.", status.version, label)
-                rows.add("tsearch_documents", "gauge", "Documents that are published.", status.documents, label)
-                rows.add("tsearch_document_bytes", "gauge", "Bytes of their bodies.", status.bytes, label)
-                rows.add("tsearch_accepted", "gauge", "Puts, loads and removes in this life of the program.", status.accepted, label)
-                rows.add("tsearch_open_searches", "gauge", "Searches without an entry.", status.open, label)
-            heals = getattr(repository.session, "heals", 0)
+            documents, size = repository.kept.totals
+            rows.add("tsearch_documents", "gauge", "Documents of the repository.", documents, label)
+            rows.add("tsearch_document_bytes", "gauge", "Bytes of their files.", size, label)
             rows.add("tsearch_loaded", "gauge", "Whether all of it is loaded.", int(repository.is_loaded), label)
-            rows.add("tsearch_memory_bytes", "gauge", "Memory of the program.", memory_of([getattr(repository.session, "pid", None)]), label)
             rows.add("tsearch_left_out_files", "gauge", "Files that are no documents.", len(repository.kept.left_out), label)
-            rows.add("tsearch_restarts_total", "counter", "Programs started again.", repository.restarts + heals, label)
-            rows.add("tsearch_search_seconds_total", "counter", "Seconds of its searches.", round(repository.seconds, 6), label)
+            rows.add("tsearch_search_seconds_total", "counter", "Seconds of its searches, and a share of those of several.", round(repository.seconds, 6), label)
         for outcome in _OUTCOMES:
             rows.add("tsearch_web_searches_total", "counter", "Searches of visitors.", self._outcomes[outcome], {"outcome": outcome})
         rows.add_histogram("tsearch_web_search_seconds", "Seconds until the answers of visitors.", self._seconds)
@@ -586,16 +609,17 @@ def shares(counts: list[int], most: int) -> list[int]:
     return found
 
 
-async def _reviewed(repository: Objects, asked: Asked, words: dict[str, str], own: Filter) -> tuple[Reviewed, dict[str, object]]:
+async def _reviewed(repository: Objects, asked: Asked, words: dict[str, str], own: Filter, lane: bytes) -> tuple[Reviewed, dict[str, object]]:
     commits = [await repository.commit(words.get(side, "")) for side in ("before", "after")]
-    review = await repository.review(*commits)
     query = asked.query
     options = Options(
         ignore_case=query.ignore_case, literal=query.literal, whole_words=query.whole_words, whole_lines=query.whole_lines, invert=query.invert,
         names=(*query.names, *map(to_bytes, own.names)), not_names=(*query.not_names, *map(to_bytes, own.not_names)), limit=query.limit,
+        lane=lane,
     )  # fmt: skip
-    found = await review.find(query.pattern, **options)
-    return found, {"before": commits[0], "after": commits[1], "left_out": len(review.patch.left_out)}
+    async with repository.review(commits[0], commits[1]) as review:
+        found = await review.find(query.pattern, **options)
+        return found, {"before": commits[0], "after": commits[1], "left_out": len(review.patch.left_out)}
 
 
 async def _lines_at(repository: Repository, name: bytes, words: dict[str, str]) -> tuple[list[bytes], dict[str, object]]:
@@ -605,6 +629,7 @@ async def _lines_at(repository: Repository, name: bytes, words: dict[str, str]) 
         body = await repository.at(commit, name)
         return body.removesuffix(b"\n").split(b"\n") if body else [], {"commit": commit}
     assert isinstance(repository, Files)
+    repository.start("")  # `Unread` if it is not there
     if words.get("version"):
         with contextlib.suppress(Gone) if "now" in words else contextlib.nullcontext():
             answer = await repository.view(name, int(words["life"]), int(words["version"]))
@@ -613,63 +638,19 @@ async def _lines_at(repository: Repository, name: bytes, words: dict[str, str]) 
     return [hit.text for hit in answer], {"life": answer.life, "version": answer.version, **({"changed": True} if words.get("version") else {})}
 
 
-def _head_of(repository: Repository, found: Found, answer: Answer) -> dict[str, object]:
+def _head_of(repository: str, found: Found, answer: Answer) -> dict[str, object]:
     """What is said of a repository before its documents."""
-    head = {"repository": repository.name, "life": answer.life, "version": answer.version, "lines": answer.count, "more": answer.more}
-    return {**head, "loaded": repository.is_loaded, **({"revision": found.revision, "commit": found.commit} if found.commit else {})}
+    head = {"repository": repository, "life": answer.life, "version": answer.version, "lines": answer.count, "more": answer.more}
+    return {**head, **({"revision": found.revision, "commit": found.commit} if found.commit else {})}
 
 
-def _documents(answer: Answer, is_whole: bool, start: bytes = b"") -> Iterator[dict[str, object]]:
-    """The documents of an answer as JSON: the name behind its start, its address, and its lines, the long ones whole or around their
-    matches. It reads the rows itself, since it is most of the work of a search."""
-    spans_data = answer.spans_data if _bytes_of_spans(answer.spans_data or b"") <= _MOST_SPANS else None
-    spans = iter(spans_data.split(b"\n")) if spans_data else itertools.repeat(b"")
-    before, document, hits = None, None, []
-    for row in answer.data.split(b"\n")[:-1]:
-        quoted, has_name, rest = row.partition(b"\0")
-        if not has_name:
-            continue  # a gap
-        if quoted != before:
-            if document:
-                yield document
-            before, hits = quoted, []
-            path = unquote(quoted).removeprefix(start)
-            document = {"name": _shown(path), "id": _id_of(path), "hits": hits}
-        found = _NUMBER.match(rest)
-        assert found
-        text = rest[found.end() :]
-        if found[2] == b":":
-            places = next(spans).partition(b"\0")[2].split(b":", 2)
-            hits.append({"line": int(found[1]), **_parts(text, spans_of(places[1]) if len(places) > 1 and places[1] else (), is_whole)})
-        else:
-            hits.append({"line": int(found[1]), **_parts(text, (), is_whole), "around": True})
-    if document:
-        yield document
-
-
-def _id_of(path: bytes) -> str:
-    """A path as it stands in an address."""
-    return urllib.parse.quote(path, safe="/")
-
-
-def _bytes_of_spans(data: bytes) -> int:
-    """How long the spans of all rows are."""
-    rows = (row.partition(b"\0")[2].split(b":", 2) for row in data.split(b"\n")[:-1])
-    return sum(len(row[1]) for row in rows)
-
-
-async def _some_of(rows: Iterator[bytes], size: int) -> bytes:
-    """The next rows, a few at most of a block. Those of a large answer are made in a thread."""
-    return _next_of(rows) if size < _BLOCK else await asyncio.to_thread(_next_of, rows)
-
-
-def _next_of(rows: Iterator[bytes]) -> bytes:
-    block = bytearray()
-    for row in rows:
-        block += row
-        if len(block) > _BLOCK:
-            break
-    return bytes(block)
+async def _worked(answer: Answer, work: Callable[..., Any], *words: Any) -> Any:
+    """What a function makes of an answer; others have their turn before it."""
+    if len(answer.data) > _LARGE:
+        return await asyncio.to_thread(work, *words)
+    if len(answer.data) > BLOCK:
+        await asyncio.sleep(0)
+    return work(*words)
 
 
 def _review_row(line: Line, is_whole: bool) -> dict[str, object]:
@@ -696,12 +677,27 @@ def _shown(data: bytes) -> str:
     return data.decode(errors="replace")
 
 
+def _address_of(request: web.Request) -> str:
+    """Who asks."""
+    address: str = request["address"]
+    return address
+
+
+def _lane_of(request: web.Request) -> bytes:
+    """The lane of who asks: in the program, too, one with many searches holds up those of nobody else."""
+    return _address_of(request).encode()[:_LONGEST_LANE] or b"-"
+
+
+def _has_left(request: web.Request) -> bool:
+    return request.transport is None or request.transport.is_closing()
+
+
 def _shown_query(request: web.Request) -> str:
     return request.rel_url.raw_query_string[:2_000]
 
 
 def _json(row: dict[str, object]) -> bytes:
-    return json.dumps(row, separators=(",", ":")).encode() + b"\n"
+    return _written(row).encode() + b"\n"
 
 
 def _lines_of(row: dict[str, object], status: int) -> web.Response:

@@ -42,7 +42,8 @@ class Settings:
     hosts: the names under which the page may be called, or None for any.
     proxies: the addresses of proxies, which say from where they were asked.
     filters: gives for each request the repositories that it may see, and of each of them which documents; None for all.
-    cluster, shards: the address of a Dask scheduler on whose workers the documents are, and over how many for each repository.
+    readers: how many threads of the program answer, by default one for each processor, up to 16.
+    cluster, shards: the address of a Dask scheduler on whose workers the documents are, and over how many.
     log, slow_ms: the file of the requests, and after how many milliseconds a search is named there with its pattern.
     """
 

@@ -5,6 +5,7 @@ from __future__ import annotations
 import asyncio
 import collections
 import contextlib
+import functools
 import ipaddress
 import logging
 import time
@@ -41,19 +42,19 @@ class Visitors:
         if self._is_proxy(address):
             for named in reversed(",".join(request.headers.getall("X-Forwarded-For", [])).split(",")):
                 named = named.strip()
-                if not _is_address(named):
+                if _parsed(named) is None:
                     break
                 address = named
                 if not self._is_proxy(named):
                     break
-        with contextlib.suppress(ValueError):
-            found = ipaddress.ip_address(address)
-            if found.version == 6:
-                return str(ipaddress.ip_network((found, _IPV6_OF_ONE), strict=False))
+        found = _parsed(address)
+        if found is not None and found.version == 6:
+            return str(ipaddress.ip_network((found, _IPV6_OF_ONE), strict=False))
         return address
 
     def _is_proxy(self, address: str) -> bool:
-        return _is_address(address) and any(ipaddress.ip_address(address) in network for network in self._proxies)
+        found = _parsed(address)
+        return found is not None and any(found in network for network in self._proxies)
 
     @contextlib.asynccontextmanager
     async def turn(self, address: str) -> AsyncIterator[None]:
@@ -71,12 +72,12 @@ class Visitors:
                 del self._counts[address], self._turns[address]
 
 
-def _is_address(text: str) -> bool:
+@functools.lru_cache(4_096)
+def _parsed(text: str) -> ipaddress.IPv4Address | ipaddress.IPv6Address | None:
     try:
-        ipaddress.ip_address(text)
-        return True
+        return ipaddress.ip_address(text)
     except ValueError:
-        return False
+        return None
 
 
 class Connection(web.RequestHandler):

@@ -1,9 +1,10 @@
 -- Stored numbers, read back.
 use Rattle.std.specs.Prelude.{◌≡◌, ℕ, zero, suc, ◌+◌, ◌-◌, ◌*◌, ◌^◌, ◌<◌, ◌≤◌, if◌then◌else◌, nat_lt, nat_le, List, [], ◌∷◌, ◌++◌, All}
-use Rattle.std.specs.Prelude.{filter, length, Bool, true, ◌||◌, take, drop, sum, slice_index}
+use Rattle.std.specs.Prelude.{filter, length, true, ◌||◌, take, drop, sum, slice_index}
 use Rattle.std.specs.List.Sorted.{IsStrictlyIncreasing}
 use Rattle.posting.specs.ListValue.{has, without}
 use Rattle.posting.specs.Stored.{bytes_of, bytes_after}
+use Rattle.posting.specs.declared.list.Taken.{Taken}
 
 -- the numbers in these bytes; the function turns the first distance into the first number
 unfoldable pub numbers_in : (ℕ → ℕ) → List ℕ → List ℕ
@@ -70,12 +71,14 @@ pub record IsLeast (number : ℕ) (numbers : List ℕ) : Type 0 where
   pub least : All (λ n. number ≤ n) numbers
 
 -- The least number of two lists was taken out of both.
-pub record IsLower (left right : List ℕ) (number : ℕ) (left' right' : List ℕ) : Type 0 where
-  pub there : (has left number || has right number) ≡ true
-  pub least_left : All (λ n. number ≤ n) left
-  pub least_right : All (λ n. number ≤ n) right
-  pub left_is : left' ≡ without number left
-  pub right_is : right' ≡ without number right
+pub record IsLower (left right : List ℕ) (next : Taken) (left' right' : List ℕ) : Type 0 where
+  pub there : (has left next.number || has right next.number) ≡ true
+  pub in_left : next.in_left ≡ has left next.number
+  pub in_right : next.in_right ≡ has right next.number
+  pub least_left : All (λ n. next.number ≤ n) left
+  pub least_right : All (λ n. next.number ≤ n) right
+  pub left_is : left' ≡ without next.number left
+  pub right_is : right' ≡ without next.number right
   pub rising_left : IsStrictlyIncreasing left
   pub rising_right : IsStrictlyIncreasing right
 
@@ -119,8 +122,3 @@ pub record AreLeftOut (left right left' right' : List ℕ) : Type 0 where
   pub same : List ℕ
   pub left_is : left ≡ same ++ left'
   pub right_is : right ≡ same ++ right'
-
--- The numbers on the right up to this one were taken out, and perhaps some that both lists then began with.
-pub record IsMet (left right : List ℕ) (number : ℕ) (there : Bool) (left' right' : List ℕ) : Type 0 where
-  pub there_is : there ≡ has right number
-  pub left_out : AreLeftOut left (without number (not_below number right)) left' right'

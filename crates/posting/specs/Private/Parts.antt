@@ -2,7 +2,7 @@
 use Rattle.std.specs.Prelude.{Bool, true, ◌≡◌, ◌⊎◌, ℕ, ◌+◌, ◌*◌, ◌<◌, ◌≤◌, ◌-◌, ◌/◌, ◌%◌, ◌||◌, ◌&&◌, ◌==◌, List, [], map, slice_index_or, length}
 use Rattle.std.specs.List.{range_with_len, list_any}
 use Rattle.posting.specs.ListValue.{has}
-use Rattle.posting.specs.Postings.{NumberSet, set_of, holds}
+use Rattle.posting.specs.Postings.{NumberSet, set_of}
 use Rattle.posting.specs.declared.filling.Left.{Left}
 use Rattle.posting.specs.Private.Pages.{trigram_count}
 

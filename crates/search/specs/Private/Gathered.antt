@@ -186,6 +186,8 @@ shown_with shown version documents candidates joined = record {
   text = text_of_parts joined.parts.items;
   documents = documents;
   candidates = candidates;
+  found_by = joined.found_by;
+  times = None;
 }
 
 -- These rows are a gap, or there are none.

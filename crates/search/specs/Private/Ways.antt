@@ -1,19 +1,26 @@
 -- The ways in which lines that contain a match of a tree are found, and which of them is taken.
 use Rattle.std.specs.Prelude.{ℕ, ◌+◌, ◌<◌, ◌≤◌, List, length, map, sum, take}
 use Rattle.ere.specs.Tree.{Tree}
-use Rattle.engine.specs.Patterns.{IsFinderOf}
+use Rattle.engine.specs.Patterns.{IsLineFinderOf}
 use Rattle.matcher.specs.Steps.{IsQuick}
 use Rattle.simulation.specs.Simulations.{IsSimulationOf}
 use Rattle.index.specs.declared.document.SharedDocument.{SharedDocument}
+use Rattle.views.specs.declared.shown.FoundBy.{FoundBy}
+use Rattle.views.specs.declared.shown.FoundBy.TheVariants as by
 use Rattle.search.specs.declared.way.Way.{Way}
 use Rattle.search.specs.declared.way.Way.TheVariants.{FromMatchToMatch, Matcher, Simulation}
 
 -- The way is for the tree: the engine has its pattern compiled, the matcher is taken only if the tree is quick, and the simulation
 -- only if it is not.
 unfoldable pub Finds : Tree → Way → Type 0
-Finds tree (FromMatchToMatch finder) = IsFinderOf tree finder
+Finds tree (FromMatchToMatch finder) = IsLineFinderOf tree finder
 Finds tree Matcher = IsQuick tree
 Finds tree (Simulation simulation) = IsSimulationOf tree simulation × (IsQuick tree → ⊥)
+
+abbrev pub found_by : Way → FoundBy
+found_by (FromMatchToMatch finder) = by.Engine
+found_by Matcher = by.Matcher
+found_by (Simulation simulation) = by.Simulation
 
 -- the most bytes of bodies that are looked at line by line before a pattern is compiled
 abbrev pub byte_limit : ℕ

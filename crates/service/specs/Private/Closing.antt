@@ -1,5 +1,5 @@
 -- Open searches that get their entries.
-use Rattle.std.specs.Prelude.{◌≡◌, ◌≢◌, ℕ, ◌+◌, ◌<◌, ◌≤◌, List, [], ◌∷◌, ◌++◌, length, take, drop, All, Bool, Some, slice_get}
+use Rattle.std.specs.Prelude.{◌≡◌, ◌≢◌, ℕ, ◌+◌, ◌≤◌, List, [], ◌∷◌, ◌++◌, length, All, Bool, Some, slice_get}
 use mathlib.Core.List.{IsPrefix}
 use Rattle.index.specs.declared.lengths.Lengths.{Lengths}
 use Rattle.prepare.specs.Request.{Request}
@@ -7,8 +7,7 @@ use Rattle.views.specs.Shown.{Shown}
 use Rattle.script.specs.Items.{Item}
 use Rattle.steps.specs.LegalRows.{WasAsked, WasNotAsked}
 use Rattle.steps.specs.Asked.{Asks, IsFaultOf}
-use Rattle.steps.specs.Steps.{OpenSearch, last}
-use Rattle.steps.specs.declared.last.Last.{Last}
+use Rattle.steps.specs.Steps.{OpenSearch}
 use Rattle.published.specs.Desk.{DeskState}
 use Rattle.published.specs.History.{Known}
 use Rattle.transcript.specs.declared.entry.Entry.{Entry}
@@ -18,7 +17,8 @@ use Rattle.transcript.specs.declared.entry.SearchReason.{SearchReason}
 use Rattle.transcript.specs.declared.entry.SearchReason.TheVariants as search_reason
 use Rattle.service.specs.Collected.{number_in}
 use Rattle.service.specs.Opening.{limits_of}
-use Rattle.service.specs.Service.{ServiceState, CanStand}
+use Rattle.service.specs.Service.{ServiceState, CanStand, without}
+use Rattle.service.specs.Turns.{StillHave, TurnsState}
 use Rattle.service.specs.declared.reply.Reply.{Reply}
 use Rattle.service.specs.declared.reply.Reply.TheVariants as reply
 
@@ -26,35 +26,28 @@ use Rattle.service.specs.declared.reply.Reply.TheVariants as reply
 pub record IsService (service : ServiceState) : Type 0 where
   pub begins : IsPrefix service.told service.accepted
   pub least : All (λ search. search.least ≤ length service.told) service.awaited
-  pub versions : All (λ l. l.version ≤ length service.told) service.lasts
-  pub turns : All (λ l. l.turn + length service.awaited ≤ service.searches) service.lasts
-  pub reader_zero : 0 < length service.lasts
+  pub few : length service.awaited ≤ service.searches
 
 -- the service with these parts
-abbrev pub service_of : DeskState → Lengths → Bool → Known → List ℕ → ℕ → List OpenSearch → List Last → ServiceState
-service_of desk lengths timed told kept searches awaited lasts = record {
+abbrev pub service_of : DeskState → Lengths → Bool → Known → List ℕ → ℕ → List OpenSearch → TurnsState → ServiceState
+service_of desk lengths timed told kept searches awaited turns = record {
   limits = limits_of desk.limit lengths timed;
   accepted = desk.accepted;
   told = told.commands;
   kept = kept;
   searches = searches;
   awaited = awaited;
-  lasts = lasts;
+  turns = turns;
 }
 
 abbrev pub with_kept : List ℕ → ServiceState → ServiceState
 with_kept kept service = record service { kept = kept }
 
--- No reader has answered, and there is reader 0.
-pub record IsUnused (lasts : List Last) : Type 0 where
-  pub reader_zero : 0 < length lasts
-  pub unused : All (λ l. l ≡ last 0 0) lasts
-
 -- The search at this place can get this answer.
-pub record CanClose (service : ServiceState) (place reader : ℕ) (answer : Shown) : Type 0 where
+pub record CanClose (service : ServiceState) (place : ℕ) (answer : Shown) : Type 0 where
   pub search : OpenSearch
   pub is_open : slice_get service.awaited place ≡ Some search
-  pub stands : CanStand service search reader answer
+  pub stands : CanStand service search answer
 
 -- one more search was taken, and is open
 abbrev pub with_search : Item → ServiceState → ServiceState
@@ -89,7 +82,8 @@ pub record IsGivenUp (place : ℕ) (why : SearchReason) (old : ServiceState) (en
   pub search : OpenSearch
   pub is_open : slice_get old.awaited place ≡ Some search
   pub refused : entry ≡ SearchRefused search.number why
-  pub left : new ≡ record old { awaited = take place old.awaited ++ drop (place + 1) old.awaited }
+  pub still : StillHave old.turns new.turns
+  pub left : new ≡ without place new.turns old
 
 -- A cancel was taken: of an open search, of one that has its entry, or of one that was never asked.
 pub data IsCancelled (line number : ℕ) (old : ServiceState) (result : Reply) (new : ServiceState) : Type 0 where

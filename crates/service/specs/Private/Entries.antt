@@ -17,6 +17,8 @@ use Rattle.request.specs.declared.fault.FindFault.TheVariants as find_fault
 use Rattle.prepare.specs.declared.requested.FindError.{FindError}
 use Rattle.script.specs.Items.{load}
 use Rattle.published.specs.Desk.{DeskState}
+use Rattle.published.specs.declared.error.RemoveError.{RemoveError}
+use Rattle.published.specs.declared.error.RemoveError.TheVariants as remove_error
 use Rattle.transcript.specs.declared.entry.Entry.{Entry}
 use Rattle.transcript.specs.declared.entry.Entry.TheVariants.{Accepted, Refused, Published}
 use Rattle.transcript.specs.declared.entry.Reason.{Reason}
@@ -30,6 +32,11 @@ use Rattle.service.specs.Service.{IsCounted}
 abbrev pub reason_of_name : NameError → Reason
 reason_of_name name.OutOfMemory = reason.OutOfMemory
 reason_of_name error = reason.Name error
+
+abbrev pub reason_of_remove : RemoveError → Reason
+reason_of_remove remove_error.NoSuchFile = reason.NoSuchFile
+reason_of_remove remove_error.Full = reason.Full
+reason_of_remove remove_error.OutOfMemory = reason.OutOfMemory
 
 abbrev pub reason_of_fault_of : Bool → EreErrorKind → EreError → SearchReason
 reason_of_fault_of in_name kind.OutOfMemory error = search_reason.OutOfMemory
@@ -76,9 +83,9 @@ abbrev pub HasBodyOrNoMemory : Lengths → ℕ → State → List ℕ → ℕ �
 HasBodyOrNoMemory lengths most state body line entry =
     HasBody lengths most state body line entry ⊎ (IsBodyOf lengths body × (state.version < most) × RanOut line entry)
 
--- A remove needs a document of that name, and then room. If there is room, memory can run out.
-abbrev pub IsRemoveOrNoMemory : ℕ → State → List ℕ → ℕ → Entry → Type 0
-IsRemoveOrNoMemory most state name line entry = IsRemove most state name line entry ⊎ ((state.version < most) × RanOut line entry)
+-- A remove needs a document to be removed, and then room. If there is room, memory can run out.
+abbrev pub IsRemoveOrNoMemory : ℕ → State → Bool → ℕ → Entry → Type 0
+IsRemoveOrNoMemory most state found line entry = IsRemove most state found line entry ⊎ ((state.version < most) × RanOut line entry)
 
 -- A load: the source is asked once, unless the load is refused at its name, and failed exactly if the entry says so.
 pub record IsLoaded (Holds : List ℕ → List ℕ → Type 0) (lengths : Lengths) (desk : DeskState) (failed : ℕ) (name path : List ℕ)

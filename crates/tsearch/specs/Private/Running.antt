@@ -6,16 +6,16 @@ use Rattle.input.specs.Owned.{ShowsOwned}
 use Rattle.steps.specs.Entries.{failures_of}
 use Rattle.steps.specs.LegalRows.{Limits}
 use Rattle.steps.specs.Rows.{Row, items_of, entries_of, searches_of, count_searches}
-use Rattle.steps.specs.Steps.{RunState, Runs}
+use Rattle.steps.specs.Steps.{Given, RunState, Runs}
 use Rattle.steps.specs.StepRows.{AreRows, IsOfSearch, searches_in, with_its_entry}
-use Rattle.service.specs.Service.{ServiceState, Fits, Gives, IsCounted, first_service, run_of}
+use Rattle.service.specs.Service.{ServiceState, Fits, Gives, IsCounted, SetsAside, first_service, run_of}
 use Rattle.transcript.specs.declared.entry.Entry.{Entry}
 use Rattle.tsearch.specs.declared.sink.News.{News}
 use Rattle.tsearch.specs.declared.sink.News.TheVariants as news
 
 -- before the first item
 abbrev pub first_run : Limits → ℕ → RunState
-first_run limits readers = run_of (first_service limits readers) []
+first_run limits readers = run_of (first_service limits readers) [] []
 
 -- the entries that news bring
 abbrev pub entries_by : News → List Entry
@@ -75,12 +75,13 @@ pub record IsRunning {W O : Type 0} (Does : W → O → News → W → O → Typ
     (items : List Numbered) (at : Now W O) : Type 0 where
   pub rows : List Row
   pub published : List ℕ
+  pub answers : List Given
   pub written : List Entry
-  pub runs : Runs Holds start.limits readers (first_run start.limits readers) items written (run_of at.service published)
+  pub runs : Runs Holds start.limits readers (first_run start.limits readers) items written (run_of at.service published answers)
   pub same : IsPermutation (entries_of rows) written
   pub taken : items_of rows ≡ items
-  pub are_rows : AreRows Holds start.limits readers (run_of at.service published) rows
-  pub fits : Fits at.service published
+  pub are_rows : AreRows Holds start.limits readers (run_of at.service published answers) rows
+  pub fits : Fits readers at.service published answers
   pub limits : at.service.limits ≡ start.limits
   pub told : Told Does start.sink start.out rows written at.sink at.out
   pub failures : IsCounted (failures_of written) start.failed at.failed
@@ -97,7 +98,7 @@ pub record IsStopped {W O : Type 0} (Does Fails : W → O → News → W → O �
 -- An open search may have got its entry, of which the sink was told.
 pub data Answers {W O : Type 0} (Does : W → O → News → W → O → Type 0) (old : ServiceState) (sink : W) (out : O) (new : ServiceState) (sink' : W)
     (out' : O) : Type 0 where
-  nothing : new ≡ old → sink' ≡ sink → out' ≡ out → Answers Does old sink out new sink' out'
+  nothing : SetsAside old new → sink' ≡ sink → out' ≡ out → Answers Does old sink out new sink' out'
   one : (entry : Entry) → Gives old entry new → Does sink out (news.Answer entry) sink' out' → Answers Does old sink out new sink' out'
 
 -- An open search got its entry, of which the sink may have been told in part.

@@ -49,6 +49,7 @@ returns c =
     let six = c.in_ok-arg-6.ensures.shape c.number_option-4.ensures.local ∙ ap₂ with_rule five max_body_is in
     let seven = c.in_ok-arg-7.ensures.shape c.number_option-5.ensures.local ∙ ap₂ with_rule six max_line_is in
     let eight = c.in_ok-arg-8.ensures.shape c.number_option-6.ensures.local ∙ ap₂ with_rule seven max_name_is in
+    let nine = c.in_ok-arg-9.ensures.shape c.flag-3.ensures.local ∙ ap₂ with_rule eight c.flag-3.ensures.rule in
     record {
-      command_line = IfOk-weaker c.arg-9.result _ _ (λ last added. added.shape c.new-7.ensures.optional.1 ∙ ap₂ with_rule eight c.new-7.ensures.rule) c.arg-9.ensures;
+      command_line = IfOk-weaker c.arg-10.result _ _ (λ last added. added.shape c.new-7.ensures.optional.1 ∙ ap₂ with_rule nine c.new-7.ensures.rule) c.arg-10.ensures;
     }

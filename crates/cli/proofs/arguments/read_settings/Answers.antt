@@ -75,6 +75,8 @@ returns c =
     c.get_one-live.ensures.none c.get_one-live.ensures.value in
     let stats_flag = settled_flag _ (one_text (found_of m) (codes "stats")) c.get_one-stats.result c.unwrap_or-4.result c.unwrap_or-4.ensures
     c.get_one-stats.ensures.none c.get_one-stats.ensures.value in
+    let times_flag = settled_flag _ (one_text (found_of m) (codes "times")) c.get_one-times.result c.unwrap_or-8.result c.unwrap_or-8.ensures
+    c.get_one-times.ensures.none c.get_one-times.ensures.value in
     record {
       found = record {
         live = subst (λ (text : Option (List ℕ)). (c.unwrap_or.result ≡ true) ↔ (text ≡ Some (codes "true"))) (text_in (codes "live")) live_flag;
@@ -85,6 +87,7 @@ returns c =
         max_body = max_body.0 ∙ ap (number_or DEFAULT_MAX_BODY) (text_in (codes "max-body"));
         max_line = max_line.0 ∙ ap (number_or DEFAULT_MAX_LINE) (text_in (codes "max-line"));
         max_name = max_name.0 ∙ ap (number_or DEFAULT_MAX_NAME) (text_in (codes "max-name"));
+        times = subst (λ (text : Option (List ℕ)). (c.unwrap_or-8.result ≡ true) ↔ (text ≡ Some (codes "true"))) (text_in (codes "times")) times_flag;
         file = c.get_str.ensures ∙ first_value-rows (found_of m) (codes "FILE") ∙ ap (first_of (codes "FILE")) rows;
       };
       limits = record {

@@ -1,6 +1,4 @@
-use Rattle.std.proofs.Common.{◌≡◌, ◌++◌, ◌∷◌, []}
 use Rattle.std.specs.Vec.Iter.{into_iter_items}
-use Rattle.posting.specs.Private.Parts.{Grows, Moves, is_left}
 use Rattle.posting.proofs.Changes.{passed-next, passed-more}
 use Rattle.posting.proofs.Moving.{moves_entry, grows_some}
 use Rattle.posting.proofs.filling.fill_range.Goals as goal

@@ -1,4 +1,4 @@
-use Rattle.std.proofs.Common.{◌≡◌, ◌++◌, ◌∷◌, [], ◌&&◌, ◌==◌, refl, sym, subst}
+use Rattle.std.proofs.Common.{◌++◌, ◌∷◌, [], ◌&&◌, ◌==◌, refl, sym, subst}
 use Rattle.std.proofs.lemmas.Bool.{false≢true}
 use Rattle.posting.specs.ListValue.{has}
 use Rattle.posting.specs.Private.Parts.{Grows, Fills}

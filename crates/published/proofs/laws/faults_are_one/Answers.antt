@@ -15,15 +15,15 @@ one_put_fault desk put_error.OutOfMemory put_error.Full is is' = absurd (full_or
 one_put_fault desk put_error.OutOfMemory put_error.OutOfMemory is is' = refl
 
 one_remove_fault : RemoveFaultsAreOne
-one_remove_fault desk name remove_error.NoSuchFile remove_error.NoSuchFile is is' = refl
-one_remove_fault desk name remove_error.NoSuchFile remove_error.Full is is' = absurd (true≢false (sym is'.0 ∙ is))
-one_remove_fault desk name remove_error.NoSuchFile remove_error.OutOfMemory is is' = absurd (true≢false (sym is'.0 ∙ is))
-one_remove_fault desk name remove_error.Full remove_error.NoSuchFile is is' = absurd (true≢false (sym is.0 ∙ is'))
-one_remove_fault desk name remove_error.Full remove_error.Full is is' = refl
-one_remove_fault desk name remove_error.Full remove_error.OutOfMemory is is' = absurd (full_or_room desk is.1 is'.1)
-one_remove_fault desk name remove_error.OutOfMemory remove_error.NoSuchFile is is' = absurd (true≢false (sym is.0 ∙ is'))
-one_remove_fault desk name remove_error.OutOfMemory remove_error.Full is is' = absurd (full_or_room desk is'.1 is.1)
-one_remove_fault desk name remove_error.OutOfMemory remove_error.OutOfMemory is is' = refl
+one_remove_fault desk found remove_error.NoSuchFile remove_error.NoSuchFile is is' = refl
+one_remove_fault desk found remove_error.NoSuchFile remove_error.Full is is' = absurd (true≢false (sym is'.0 ∙ is))
+one_remove_fault desk found remove_error.NoSuchFile remove_error.OutOfMemory is is' = absurd (true≢false (sym is'.0 ∙ is))
+one_remove_fault desk found remove_error.Full remove_error.NoSuchFile is is' = absurd (true≢false (sym is.0 ∙ is'))
+one_remove_fault desk found remove_error.Full remove_error.Full is is' = refl
+one_remove_fault desk found remove_error.Full remove_error.OutOfMemory is is' = absurd (full_or_room desk is.1 is'.1)
+one_remove_fault desk found remove_error.OutOfMemory remove_error.NoSuchFile is is' = absurd (true≢false (sym is.0 ∙ is'))
+one_remove_fault desk found remove_error.OutOfMemory remove_error.Full is is' = absurd (full_or_room desk is'.1 is.1)
+one_remove_fault desk found remove_error.OutOfMemory remove_error.OutOfMemory is is' = refl
 
 pub returns-clause-put : goal.returns-clause-put
 returns-clause-put c = one_put_fault

@@ -15,5 +15,6 @@ returns-clause-ok c =
       c.limit_of.ensures,
       c.view_of.ensures,
       c.has_option-7.ensures,
+      c.lane_of.ensures,
       c.in_ok-names.ensures.ok,
     ) refl

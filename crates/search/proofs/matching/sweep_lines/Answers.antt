@@ -1,6 +1,7 @@
 use Rattle.std.proofs.Common.{◌≡◌, ◌≤◌, ◌+◌, ◌-◌, length, take, drop, sym, subst, arith}
 use Rattle.std.proofs.lemmas.List.{length-take, length-drop}
 use Rattle.lines.specs.Lines.{lines_of}
+use Rattle.engine.proofs.SameLineLemmas.{line_finder_kept}
 use Rattle.views.specs.Found.{numbered}
 use Rattle.search.specs.Private.Added.{AddsPlaces}
 use Rattle.search.proofs.PlaceLemmas.{rest_is_there, no_place, go_on, at_last}
@@ -14,7 +15,7 @@ returns-then-first-rest-clause-places c = λ tree body stands name there.
     let at = c.loop-first in
     let text = at.rest.now in
     let first = c.in-Some.first in
-    let is = c.in-Some.ensures.some tree (at.invariant.same tree stands) in
+    let is = c.in-Some.ensures.some tree (line_finder_kept tree c.args.finder.now at.finder at.invariant.same stands) in
     first_all c.args.most (with_match tree) c.args.document name body (numbered name c.args.from (lines_of c.args.text.now))
     c.args.places.now.items c.push.new.self.items
     (at_last (with_match tree) c.args.document name body (numbered name at.line (lines_of text)) (numbered name c.args.from (lines_of c.args.text.now))
@@ -34,7 +35,7 @@ loop-first-preserved c =
     record {
       so_far =
           λ tree body name stands there.
-          (let is = c.in-Some.ensures.some tree (at.invariant.same tree stands) in
+          (let is = c.in-Some.ensures.some tree (line_finder_kept tree c.args.finder.now at.finder at.invariant.same stands) in
           go_on (with_match tree) c.args.document name body (numbered name at.line (lines_through is))
           (numbered name (at.line + first.before + 1) (lines_of rest)) (numbered name at.line (lines_of text))
           (numbered name c.args.from (lines_of c.args.text.now)) c.args.places.now.items at.places.items c.push.new.self.items
@@ -65,7 +66,7 @@ returns-clause-places c = λ tree body stands name there.
     (at_last (with_match tree) c.args.document name body (numbered name at.line (lines_of text)) (numbered name c.args.from (lines_of c.args.text.now))
     c.args.places.now.items at.places.items at.places.items (at.invariant.so_far tree body name stands there)
     (no_place (with_match tree) c.args.document name body (numbered name at.line (lines_of text)) at.places.items
-    (none_numbered tree name at.line (lines_of text) (c.in_default.ensures.none tree (at.invariant.same tree stands)))))
+    (none_numbered tree name at.line (lines_of text) (c.in_default.ensures.none tree (line_finder_kept tree c.args.finder.now at.finder at.invariant.same stands)))))
 
 pub returns-then-is_reached-clause-places : goal.returns-then-is_reached-clause-places
 returns-then-is_reached-clause-places c = λ tree body stands name there.
@@ -75,7 +76,7 @@ returns-then-is_reached-clause-places c = λ tree body stands name there.
     let rest = take (length text - (first.end + 1)) (drop (first.end + 1) text) in
     let new = c.push.new.self.items in
     let size : c.len.result ≡ length new = omega (arith, c.len.ensures, c.push.new.self.ok) in
-    let is = c.in-Some.ensures.some tree (at.invariant.same tree stands) in
+    let is = c.in-Some.ensures.some tree (line_finder_kept tree c.args.finder.now at.finder at.invariant.same stands) in
     cut_here c.args.most (with_match tree) c.args.document name body (numbered name at.line (lines_through is))
     (numbered name (at.line + first.before + 1) (lines_of rest)) (numbered name at.line (lines_of text))
     (numbered name c.args.from (lines_of c.args.text.now)) c.args.places.now.items at.places.items new

@@ -1,15 +1,16 @@
 use Rattle.ere.specs.Tree.{form}
+use Rattle.engine.proofs.SameLineLemmas.{line_finder_kept}
 use Rattle.search.proofs.WayLemmas.{finder_of, finds_by, simulation_of, finds_by_simulation}
 use Rattle.search.proofs.way.has_match.Goals as goal
 
-pub returns-in-FromMatchToMatch-clause-way : goal.returns-in-FromMatchToMatch-clause-way
-returns-in-FromMatchToMatch-clause-way g c =
+pub returns-else-line-longest-clause-way : goal.returns-else-line-longest-clause-way
+returns-else-line-longest-clause-way g c =
     finds_by (form c.args.tree.now) c.matches.new.self
-    (c.matches.ensures.same (form c.args.tree.now)
+    (line_finder_kept (form c.args.tree.now) c.in-FromMatchToMatch.finder c.matches.new.self c.matches.ensures.same
     (finder_of (form c.args.tree.now) c.args.way.now c.in-FromMatchToMatch.finder c.in-FromMatchToMatch.is c.requires.way))
 
-pub returns-in-FromMatchToMatch-clause-found : goal.returns-in-FromMatchToMatch-clause-found
-returns-in-FromMatchToMatch-clause-found g c =
+pub returns-else-line-longest-clause-found : goal.returns-else-line-longest-clause-found
+returns-else-line-longest-clause-found g c =
     c.matches.ensures.found (form c.args.tree.now)
     (finder_of (form c.args.tree.now) c.args.way.now c.in-FromMatchToMatch.finder c.in-FromMatchToMatch.is c.requires.way)
 

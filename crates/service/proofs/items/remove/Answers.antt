@@ -9,5 +9,5 @@ returns-in-Err-clause-entry c line = named_fault c.args.longest c.in-Err.error c
 
 pub returns-in-Ok-clause-entry : goal.returns-in-Ok-clause-entry
 returns-in-Ok-clause-entry c line =
-    named_removed c.args.longest c.args.desk.now.limit (state_of c.args.desk.now.accepted) c.args.name.now line _ c.in-Ok.ensures.name.1
+    named_removed c.args.longest c.args.desk.now.limit (state_of c.args.desk.now.accepted) c.args.name.now _ line _ c.in-Ok.ensures.name.1
     (rw c.in-Ok.ensures.name.0 at (c.remove_named.ensures.entry line))

@@ -1,4 +1,6 @@
-use Rattle.tsearch.specs.Private.Running.{one}
+use Rattle.std.proofs.Common.{refl}
+use Rattle.service.proofs.TurnsLemmas.{aside_none}
+use Rattle.tsearch.specs.Private.Running.{nothing, one}
 use Rattle.tsearch.proofs.ServingLemmas.{on_ok_map, on_err_map}
 use Rattle.tsearch.proofs.items.hand_out.Goals as goal
 
@@ -10,3 +12,6 @@ pub returns-in-Some-answer_here-clause-err : goal.returns-in-Some-answer_here-cl
 returns-in-Some-answer_here-clause-err g c =
     on_err_map c.note.result
     (λ fails. record { entry = c.in-Some-answer_here.entry; gives = c.in-Some-answer_here.ensures.some; fails = fails }) c.note.ensures.err
+
+pub returns-in_default-clause-ok : goal.returns-in_default-clause-ok
+returns-in_default-clause-ok g c = nothing (aside_none _) refl refl

@@ -11,14 +11,14 @@ halved_start-requires g c = (c.requires.seeks.0, c.requires.seeks.1.simulation)
 pub halved_start-requires-in-None : goal.halved_start-requires-in-None
 halved_start-requires-in-None g c = (c.requires.seeks.0, c.requires.seeks.1.simulation)
 
-pub halved_start-requires-then-line-gt-MOST_BY_ENGINE : goal.halved_start-requires-then-line-gt-MOST_BY_ENGINE
-halved_start-requires-then-line-gt-MOST_BY_ENGINE g c = (c.requires.seeks.0, c.requires.seeks.1.simulation)
+pub halved_start-requires-then-line-longest : goal.halved_start-requires-then-line-longest
+halved_start-requires-then-line-longest g c = (c.requires.seeks.0, c.requires.seeks.1.simulation)
 
-pub returns-then-line-gt-MOST_BY_ENGINE-clause-found : goal.returns-then-line-gt-MOST_BY_ENGINE-clause-found
-returns-then-line-gt-MOST_BY_ENGINE-clause-found g c =
-    IfOk-weaker c.halved_start-then-line-gt-MOST_BY_ENGINE.result _ _ (λ found is tree seeks.
+pub returns-then-line-longest-clause-found : goal.returns-then-line-longest-clause-found
+returns-then-line-longest-clause-found g c =
+    IfOk-weaker c.halved_start-then-line-longest.result _ _ (λ found is tree seeks.
     subst (λ (w : Bool). MatchOption found (HasNoStart c.args.line.now tree w) (IsFirstStart c.args.line.now tree w)) (sym c.if-whole_words.false)
-    (is tree seeks.simulation)) c.halved_start-then-line-gt-MOST_BY_ENGINE.ensures.found
+    (is tree seeks.simulation)) c.halved_start-then-line-longest.ensures.found
 
 pub returns-then-whole_words-clause-found : goal.returns-then-whole_words-clause-found
 returns-then-whole_words-clause-found g c =

@@ -16,7 +16,7 @@ returns-in-Entry-clause-takes g c = λ shown shows.
     (subst
     (λ s.
     Takes (g.S.Source.holds c.args.source.now)
-    (service_of c.self.inside.desk c.self.inside.lengths (is_some c.self.inside.search_ms) c.self.inside.told c.self.inside.kept.items c.self.inside.searches c.self.inside.awaited.items c.self.inside.lasts.items)
+    (service_of c.self.inside.desk c.self.inside.lengths (is_some c.self.inside.search_ms) c.self.inside.told c.self.inside.kept.items c.self.inside.searches c.self.inside.awaited.items c.self.inside.turns)
     item (c.in-Entry.entry ∷ []) s) (sym c.note.ensures.rest)
     (entered_takes (g.S.Source.holds c.args.source.now) c.self.inside.lengths c.self.inside.desk c.self.inside.told _ item c.in-Entry.entry c.carry_out.new.desk
     c.carry_out.new.told _ (c.in-Entry.ensures.done shown shows) _ _ _ _ _ c.note.new.self.kept c.note.ensures.kept))
@@ -53,7 +53,7 @@ returns-in-Status-clause-takes g c = λ shown shows.
     let item = numbered c.args.read.line shown in
     let old =
     service_of c.carry_out.new.desk c.self.inside.lengths (is_some c.self.inside.search_ms) c.carry_out.new.told c.self.inside.kept.items c.self.inside.searches
-    c.self.inside.awaited.items c.self.inside.lasts.items in
+    c.self.inside.awaited.items c.self.inside.turns in
     subst (λ o. Takes (g.S.Source.holds c.args.source.now) o item (c.status.result ∷ []) c.status.new.self)
     (left_same c.self.inside.desk c.self.inside.told _ c.carry_out.new.desk c.carry_out.new.told _ _ _ _ _ _ _ (c.in-Status.ensures.done shown shows).1 ∙ c.self.view_is)
     (subst (λ s. Takes (g.S.Source.holds c.args.source.now) old item (c.status.result ∷ []) s) (sym c.status.ensures.same)
@@ -84,7 +84,7 @@ invariant_of-self g c =
     let done = c.in-Entry.ensures.done some.0 some.1 in
     let item = numbered c.args.read.line some.0 in (
       done.opening ∙ c.self.invariant.0,
-      entered_opening (g.S.Source.holds c.args.source.now) _ _ _ _ item c.in-Entry.entry _ _ _ done true [] 0 [] [] _ c.self.invariant.0 c.self.invariant.1,
+      entered_opening (g.S.Source.holds c.args.source.now) _ _ _ _ item c.in-Entry.entry _ _ _ done true [] 0 [] c.self.inside.turns _ c.self.invariant.0 c.self.invariant.1,
       c.self.invariant.2,
       entered_is_service (g.S.Source.holds c.args.source.now) _ _ _ _ item c.in-Entry.entry _ _ _ done _ _ _ _ _ c.self.invariant.3,
       done.published c.self.invariant.4,

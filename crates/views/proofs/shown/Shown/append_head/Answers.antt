@@ -2,7 +2,7 @@ use Rattle.std.proofs.Common.{◌≡◌, ◌++◌, ◌∙◌, ap, sym, cond, []}
 use Rattle.std.specs.Prelude.{codes, decimal}
 use Rattle.std.proofs.lemmas.List.{append-nil}
 use Rattle.std.proofs.lemmas.Result.{on_ok_weaker}
-use Rattle.views.specs.Shown.{text_of_head, text_of_rows_count, text_of_stats}
+use Rattle.views.specs.Shown.{text_of_head, text_of_rows_count, text_of_stats, text_of_times}
 use Rattle.views.specs.Text.{line_end}
 use Rattle.views.specs.View.{shows_names}
 use Rattle.views.proofs.TextLemmas.{seven, grown}
@@ -38,8 +38,9 @@ returns-clause-ok c =
           ∙ (sym (append-nil c.append_rows.new.out.items)
           ∙ ap (λ t. c.append_rows.new.out.items ++ cond t (text_of_stats now) []) (sym w.if-stats.false))
     ] in
+    let times = c.in_ok-append_times.ensures.ok in
     let end : c.as_slice-3.result.now ≡ line_end = c.as_slice-3.ensures in
     on_ok_weaker c.append_all-2.result (λ e.
-    grown old _ (text_of_rows_count now.view now.rows) (cond c.args.stats (text_of_stats now) []) line_end c.append_all.new.out.items
-    c.append_rows.new.out.items c.if-stats.out.items c.append_all-2.new.out.items first rows stats
-    (e ∙ ap (λ t. c.if-stats.out.items ++ (t ++ [])) end)) c.append_all-2.ensures.ok
+    grown old _ (text_of_rows_count now.view now.rows) (cond c.args.stats (text_of_stats now) []) (text_of_times now.found_by now.times) line_end
+    c.append_all.new.out.items c.append_rows.new.out.items c.if-stats.out.items c.append_times.new.out.items c.append_all-2.new.out.items
+    first rows stats times (e ∙ ap (λ t. c.append_times.new.out.items ++ (t ++ [])) end)) c.append_all-2.ensures.ok

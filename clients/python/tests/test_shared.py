@@ -1,0 +1,461 @@
+"""Repositories that share a session: searches over several, what one of them lacks, and repositories and revisions that come and go."""
+
+import asyncio
+import concurrent.futures
+import contextlib
+import dataclasses
+import itertools
+import json
+import os
+import pathlib
+import random
+import signal
+import tempfile
+import unittest
+
+from helpers import SECONDS, Model, until
+from made import Made
+from serving import Server, serving_in
+from test_host import NO_REASON, REASON, Host
+
+import tsearch
+from tsearch import aio
+from tsearch.answers import Answer, Published, View
+from tsearch.merging import parted
+from tsearch.query import Query
+
+
+def hits_by_repository(rows: list[dict]) -> dict[str, list[tuple[str, list[dict]]]]:
+    """The files of each repository that has an answer, with their hits."""
+    found: dict[str, list[tuple[str, list[dict]]]] = {row["repository"]: [] for row in rows if "life" in row}
+    for row in rows:
+        if "hits" in row:
+            found[row["repository"]].append((row["name"], row["hits"]))
+    return found
+
+
+@unittest.skipUnless(NO_REASON, REASON)
+class Several(unittest.TestCase):
+    """Searches over seven repositories, of files and of revisions, beside those in each."""
+
+    NAMES = ["r0", "r1", "r2", "r3", "r4", "files", "with space"]
+
+    @classmethod
+    def setUpClass(cls) -> None:
+        cls.top = pathlib.Path(cls.enterClassContext(tempfile.TemporaryDirectory()))
+        rows = []
+        for number, name in enumerate(cls.NAMES):
+            documents = {**Model(number, 20).documents, b"many": b"".join(b"many %d %s\n" % (at, name.encode()) for at in range(number * 20))}
+            if number < 5:
+                made = Made(cls.top / f"{name}.git")
+                made.commit("main" if number % 2 else "trunk/x+1", documents)
+                rows.append(f'[[repository]]\npath = "{name}.git"\nrevisions = ["main", "trunk/*"]\n')
+                continue
+            for path, body in documents.items():
+                file = cls.top / name / os.fsdecode(path)
+                file.parent.mkdir(parents=True, exist_ok=True)
+                file.write_bytes(body)
+            rows.append(f'[[repository]]\npath = "{name}"\n')
+        (cls.top / "host.toml").write_text("".join(rows))
+        words = ("--settings", str(cls.top / "host.toml"), "--filter-header", "X-Filters", "--most-lines", "100")
+        cls.server = cls.enterClassContext(serving_in(cls.top, *words, count=len(cls.NAMES), names=cls.NAMES))
+
+    def setUp(self) -> None:
+        self.see({name: {} for name in self.NAMES})
+
+    def see(self, filters: dict[str, dict]) -> None:
+        self.server.headers = {"X-Filters": json.dumps(filters)}
+
+    def alone(self, pattern: str, **words: object) -> dict[str, list[tuple[str, list[dict]]]]:
+        """What each repository answers by itself."""
+        seen = json.loads(self.server.headers["X-Filters"])
+        return {name: hits_by_repository(self.server.find(pattern, repository=name, **words))[name] for name in self.NAMES if name in seen}
+
+    def test_all_at_once_as_each_alone(self) -> None:
+        patterns = [*Model.PATTERNS, "many (7|19) ", "nothing at all"]
+        for number, pattern in enumerate(patterns):
+            words: dict[str, object] = [{}, {"context": 2}, {"name": "f1", "i": 1}, {"not": ["^dir 1/", "f2"], "context": 1}, {"v": 1, "name": "f3"}][number % 5]
+            rows = self.server.find(pattern, **words)
+            if rows[-1]["more"]:
+                continue
+            self.assertEqual(hits_by_repository(rows), self.alone(pattern, **words), (pattern, words))
+            self.assertEqual(rows[-1]["lines"], sum(row["lines"] for row in rows if "life" in row))
+        self.assertEqual(len({row["version"] for row in self.server.find("x=1", name="f1") if "life" in row}), 1)
+
+    def test_shares(self) -> None:
+        """Of more lines than are shown each repository has as many as any other, and then those that have more; each as it is alone."""
+        from tsearch.web.server import shares
+
+        rows = self.server.find("^many", context=1)
+        lines = {row["repository"]: (row["lines"], row["more"]) for row in rows if "life" in row}
+        counts = [number * 20 for number in range(7)]
+        wanted = shares(counts, 100)
+        self.assertEqual(lines, {name: (share, share < count) for name, share, count in zip(self.NAMES, wanted, counts)})
+        self.assertEqual((rows[-1]["lines"], rows[-1]["more"]), (100, True))
+        found = hits_by_repository(rows)
+        for name, share in zip(self.NAMES, wanted):
+            one = hits_by_repository(self.server.find("^many", context=1, repository=name, max=share))[name] if share else []
+            self.assertEqual(found[name], one, name)
+        rows = self.server.find("^many", repository=["r4", "files"])
+        self.assertEqual([row["lines"] for row in rows if "life" in row], [50, 50])
+        self.assertEqual(self.server.lines("/api/count", q="^many"), [{"counts": dict(zip(self.NAMES, counts))}])
+        self.assertEqual(self.server.lines("/api/count", q="^many", repository="r4"), [{"counts": {"r4": 80}}])
+
+    def test_filters_of_each(self) -> None:
+        self.see({"r1": {}, "r2": {"names": ["^dir 1/"]}, "r3": {"not_names": ["^dir 1/"]}, "files": {"names": ["^dir 1/"]}, "with space": {}})
+        for words in {}, {"name": "f1"}, {"not": "^dir 2"}:
+            rows = self.server.find("alpha", **words)
+            self.assertEqual(hits_by_repository(rows), self.alone("alpha", **words))
+            names = {name for found in (hits_by_repository(rows)[one] for one in ("r2", "files")) for name, _ in found}
+            self.assertEqual({name.split("/")[0] for name in names} - {"dir 1"}, set())
+        self.see({"r1": {}, "r2": {"names": ["("]}})
+        self.assertEqual(self.server.find("alpha"), [{"refused": "group not closed", "offset": 0, "in": "host"}])
+
+    def test_as_many_patterns_of_paths_as_a_search_takes(self) -> None:
+        self.see({name: {} for name in ("r1", "files")})
+        for names in (["f1"] * 15, ["f1"] * 16):
+            self.assertEqual(hits_by_repository(self.server.find("alpha", name=names)), self.alone("alpha", name="f1"))
+            self.assertEqual(hits_by_repository(self.server.find("alpha", **{"not": names})), self.alone("alpha", **{"not": "f1"}))
+            for name in "r1", "files":
+                one = hits_by_repository(self.server.find("alpha", name=names, repository=name))
+                self.assertEqual(one, {name: self.alone("alpha", name="f1")[name]})
+        self.assertEqual(self.server.find("alpha", name=["f1"] * 17), [{"refused": "option -n over 16 times"}])
+        long = {"name": ["f1", "f2"], "not": ["a", "b" * 1_020]}
+        self.assertEqual([self.server.find("alpha", **long)[0][key] for key in ("refused", "in")], ["pattern too long", "not"])
+
+    def test_revisions(self) -> None:
+        """Those that have it answer, and the others are named."""
+        rows = self.server.find("alpha", revision="main")
+        self.assertEqual(set(hits_by_repository(rows)), {"r1", "r3"})
+        self.assertEqual(rows[-1]["missing"], ["r0", "r2", "r4", "files", "with space"])
+
+
+class Parts(unittest.TestCase):
+    def test_the_parts_of_an_answer(self) -> None:
+        """Each is the answer of a search in its documents alone."""
+        with tsearch.Session() as session:
+            documents = {b"%d:%s:%s" % (number, revision, name): body for number, revision in ((2, b"main"), (10, b""), (1, b"a b")) for name, body in Model(number).documents.items()}
+            for name, body in documents.items():
+                session.put(name, body)
+            session.publish()
+            starts = [b"2:main:", b"3:none:", b"10::", b"1:a%20b:"]
+            for pattern in Model.PATTERNS:
+                for options in {}, {"spans": True}, {"spans": True, "limit": 25}:
+                    whole = session.find(pattern, context=1, **options)
+                    for start, part in zip(starts, parted(whole, starts)):
+                        alone = session.find(pattern, context=1, names="^" + start.decode(), **{**options, "limit": None})
+                        if whole.more:
+                            # a line behind the limit may be shown as one around another
+                            self.assertEqual((part.hits(), part.count), (alone.hits()[: part.count], len(part.hits())))
+                        else:
+                            self.assertEqual((list(part.rows()), part.count), (list(alone.rows()), alone.count), (pattern, options, start))
+        none = Answer(1, 1, 0, False, View.CONTEXT, b"", spans_data=None)
+        self.assertEqual(parted(none, [b"1::"]), [none])
+
+    def test_patterns_of_many_repositories(self) -> None:
+        """Each is short enough, and together they are for all."""
+        from tsearch.web.searching import _fitting, _Part, _starts
+
+        source = random.Random(3)
+        revisions = ["main", "", "release/" + "1." * 40, "v+(2)|3^$", "caf\udce9"]
+        parts = []
+        for number in range(1, 700):
+            start = b"%d:%s:" % (number, tsearch.names.to_bytes(source.choice(revisions)))
+            parts.append(_Part(number, None, "", start, tsearch.names.quote(start)))
+        some = list(_fitting(parts))
+        self.assertEqual(sorted(part.at for fitting in some for part in fitting), list(range(1, 700)))
+        patterns = [b"^" + _starts(fitting) for fitting in some]
+        self.assertLess(max(map(len, patterns)), 1_025)
+        self.assertLess(len(patterns), 8)
+        with tsearch.Session() as session:
+            for part in parts:
+                session.put(part.start + b"a:b", b"x\n")
+                session.put(b"1" + part.start + b"a", b"x\n")
+            session.publish()
+            for fitting, pattern in zip(some, patterns):
+                found = session.find("x", names=pattern, names_only=True).names()
+                wanted = {part.start for part in fitting}
+                self.assertEqual({name[: -len(b"a:b")] for name in found if name.endswith(b"a:b")}, wanted)
+
+
+class Marking(unittest.TestCase):
+    def test_the_matches_of_simple_patterns(self) -> None:
+        """They are those that the program tells."""
+        from tsearch.web.marks import marks_of
+
+        source = random.Random(5)
+        simple = ["foo", "return NULL", "a", "fo*", "o+", "[a-c]x", "while *\\(1\\)", "x{2,3}", "(ab)(c)", "a.c", "[^a]", "b?a", "ab*c?d", "\\.", "caf\u00e9", "x{2}", "_", "a_1"]
+        others = ["a|b", "^foo", "foo$", "(ab)*", "a*", "a*ab", "a?(ab)?", "x*", "(a|b)c", "a+a", "", "[a-z]{65}", "(", "[", "*a", "[[:x:]]", "a?b?ab", "a{5,2}", "(" * 500 + "a" + ")" * 500, "(" * 9_000, "x" * 1_025]
+        letters = ["a", "b", "ab", "abc", "foo", "o", "x", "xx", "_", " ", "while (1)", "while(1)", "return NULL", ".", "caf\u00e9", "A", "FOO", "a_1", "\t", "d"]
+        lines = ["".join(source.choices(letters, k=source.randint(0, 14))) for _ in range(400)]
+        with tsearch.Session() as session:
+            session.put("x", "\n".join(lines))
+            session.publish()
+            count = 0
+            for pattern in simple:
+                for options in {}, {"ignore_case": True}, {"whole_words": True}, {"whole_lines": True}, {"literal": True}:
+                    query = Query.of(pattern, context=0, spans=True, **options)
+                    marks = marks_of(query)
+                    self.assertIsNotNone(marks, (pattern, options))
+                    for hit in session.find(pattern, context=0, spans=True, **options):
+                        self.assertEqual(marks.pattern.split(hit.text), hit.parts(), (pattern, options, hit.text))
+                        count += len(hit.spans)
+            self.assertGreater(count, 10_000)
+        for pattern in others:
+            self.assertIsNone(marks_of(Query.of(pattern, context=0, spans=True)), pattern)
+        for options in {"invert": True, "context": 0}, {"spans": True}:
+            self.assertIsNone(marks_of(Query.of("foo", **options)))
+        marks = marks_of(Query.of("ab*c", context=0, spans=True))
+        self.assertEqual([marks.can_mark(b"a\n" + b"x" * length + b"\n") for length in (1_000, 1_001)], [True, False])
+
+
+@unittest.skipUnless(NO_REASON, REASON)
+class Changes(Host):
+    def head_of(self, server: Server, repository: str) -> dict:
+        return next((row for row in server.find("int") if row.get("repository") == repository), {})
+
+    def test_a_program_that_ends(self) -> None:
+        """Each repository is named until all of it is there again: no answer has a part of one."""
+        other = Made(self.top / "other.git")
+        other.commit("main", {b"%d.c" % number: b"int main;\n" for number in range(2_000)})
+        server = self.serve("--look", "1000", "--most-lines", "100000", str(self.made.path), str(other.path), count=2)
+        os.kill(server.programs()[0], signal.SIGKILL)
+        seen = set()
+        while True:
+            rows = server.find("int main")
+            counts = {row["repository"]: row["lines"] for row in rows if "lines" in row and "life" in row}
+            self.assertLessEqual(counts.items(), {"made": 1, "other": 2_000}.items())
+            missing = {name for row in rows[-1:] for name in row.get("missing", ())}
+            if "refused" not in rows[0]:
+                self.assertEqual(missing | counts.keys(), {"made", "other"})
+                self.assertTrue(all(row["again"] for row in rows if "fault" in row))
+            seen.add(len(counts))
+            if len(counts) == 2:
+                break
+        self.assertIn(0, seen)
+        self.assertEqual(self.metric(server, "tsearch_restarts_total"), 1)
+
+    def test_revisions_that_come_and_go(self) -> None:
+        """The repository answers all the time, and what is no longer served is not found."""
+        made = self.made
+        for number in range(3):
+            made.commit(f"topic{number}", {b"topic.c": b"int topic%d;\n" % number}, start="main")
+        file = self.top / "host.toml"
+        text = lambda *revisions: file.write_text(f'[[repository]]\npath = "made.git"\nrevisions = {json.dumps(revisions)}\n')  # noqa: E731
+        text("main")
+        server = self.serve("--settings", str(file), "--look", "1000")
+        with concurrent.futures.ThreadPoolExecutor(1) as pool:
+            done = False
+
+            def ask() -> int:
+                count = 0
+                while not done:
+                    self.assertEqual(server.find("int main", revision="main")[-1].get("lines"), 1)
+                    count += 1
+                return count
+
+            asking = pool.submit(ask)
+            for revisions in (["main", "topic0", "topic1"], ["topic2", "main"], ["main", "topic*"], ["main"]):
+                text(*revisions)
+                os.kill(server.pid, signal.SIGHUP)
+                wanted = {f"topic{number}" for number in range(3) if {f"topic{number}", "topic*"} & set(revisions)}
+                until(lambda wanted=wanted: {f"topic{number}" for number in range(3) if server.hits("int topic", revision=f"topic{number}")} == wanted)
+            done = True
+            self.assertGreater(asking.result(), 5)
+        until(lambda: self.metric(server, "tsearch_documents") == 4)
+        self.assertEqual(len(server.programs()), 1)
+
+    def test_another_path(self) -> None:
+        """The one before is not found, and nothing of it stays in the session."""
+        other = Made(self.top / "other.git")
+        other.commit("main", {b"a.c": b"int other;\n"})
+        file = self.top / "host.toml"
+        file.write_text('[[repository]]\npath = "made.git"\nname = "one"\n')
+        server = self.serve("--settings", str(file))
+        accepted = self.metric(server, "tsearch_accepted")
+        file.write_text('[[repository]]\npath = "other.git"\nname = "one"\n')
+        os.kill(server.pid, signal.SIGHUP)
+        until(lambda: server.hits("int") == [("one", "a.c", 1, "int other;")])
+        until(lambda: self.metric(server, "tsearch_accepted") == accepted + 1 + 4)
+
+    def test_more_reviews_at_once_than_are_kept(self) -> None:
+        """None ends while a search is in it, and only the last ones stay in the session."""
+        commits = [self.first] + [self.made.commit("main", {b"n.c": b"int n%d;\n" % number}) for number in range(8)]
+        server = self.serve("--proxy", "127.0.0.1", str(self.made.path))
+        accepted = self.metric(server, "tsearch_accepted")
+        pairs = [(before, after) for before in commits[1:] for after in commits[1:] if before != after]
+
+        def review(number: int) -> None:
+            before, after = pairs[number % len(pairs)]
+            words = f"repository=made&before={before}&after={after}&q=int%20n"
+            rows = [json.loads(row) for row in server.get(f"/api/review?{words}", {"X-Forwarded-For": f"198.51.100.{number}"})[1].splitlines()]
+            self.assertEqual({key: rows[-1].get(key) for key in ("removed", "added", "left")}, {"removed": 1, "added": 1, "left": 0}, rows)
+
+        with concurrent.futures.ThreadPoolExecutor(12) as pool:
+            list(pool.map(review, range(60)))
+        # two puts for each, and two removes but for the four that are kept
+        until(lambda: (self.metric(server, "tsearch_accepted") - accepted) % 4 == 0)
+        self.assertGreater(self.metric(server, "tsearch_accepted"), accepted + 4 * 52)
+
+    def test_one_that_cannot_be_read(self) -> None:
+        """It is named with the reason, and is not asked for again and again; the other answers."""
+        broken = Made(self.top / "broken.git")
+        broken.commit("main", {b"a.c": b"int main;\n"})
+        tree = broken.git("rev-parse", "main^{tree}")
+        (broken.path / "objects" / tree[:2] / tree[2:]).unlink()
+        server = self.enterContext(serving_in(self.top, str(self.made.path), str(broken.path), count=2, loaded=1))
+        until(lambda: "broken" in server.log)
+        rows = server.find("int main")
+        fault = next(row for row in rows if "fault" in row)
+        self.assertEqual((rows[-1]["lines"], rows[-1]["missing"], fault["repository"]), (1, ["broken"], "broken"))
+        self.assertEqual(server.get("/health")[0], 503)
+
+
+@unittest.skipUnless(NO_REASON, REASON)
+class Sharing(unittest.IsolatedAsyncioTestCase):
+    async def asyncSetUp(self) -> None:
+        from tsearch.web.repositories import Shared
+
+        self.top = pathlib.Path(self.enterContext(tempfile.TemporaryDirectory()))
+        self.session = await self.enterAsyncContext(aio.Session.started())
+        self.shared = Shared(self.session, self.fail)
+
+    async def test_an_answer_of_a_program_that_had_not_all(self) -> None:
+        from tsearch.web.repositories import Files, Served, Unread
+
+        (self.top / "x").write_text("in\n")
+        files = Files(Served("x", os.fsencode(self.top)), self.shared)
+        with self.assertRaises(Unread):
+            files.start("")
+        await files._look(self.fail)
+        answer = await self.session.find("in", context=0)
+        self.assertEqual((await files.found(answer, *files.start(""))).answer, answer)
+        for life, version in (2, 9), (1, 0), (0, 9):
+            with self.assertRaises(Unread):
+                await files.found(dataclasses.replace(answer, life=life, version=version), *files.start(""))
+
+    async def expect(self, documents: int) -> None:
+        """Waits until the session has so many."""
+        async with asyncio.timeout(SECONDS):
+            while (await self.session.status()).documents != documents:
+                await asyncio.sleep(0.01)
+
+    async def test_reviews_in_use(self) -> None:
+        """None of them ends, and then the last four stay."""
+        from tsearch.web.repositories import Objects, Served
+
+        made = Made(self.top / "made.git")
+        commits = [made.commit("main", {b"n.c": b"int n%d;\n" % number}) for number in range(8)]
+        objects = Objects(Served("made", os.fsencode(made.path), ("main",)), self.shared)
+        await objects._look(self.fail)
+        async with contextlib.AsyncExitStack() as stack:
+            reviews = [await stack.enter_async_context(objects.review(*pair)) for pair in itertools.pairwise(commits)]
+            again = await stack.enter_async_context(objects.review(*commits[:2]))
+            async with objects.review(commits[0], commits[2]):
+                pass
+            await asyncio.sleep(0.2)
+            self.assertIs(again, reviews[0])
+            self.assertEqual([(await review.find("int")).count("+") for review in reviews], [1] * 7)
+            await self.expect(1 + 7 * 2)
+        await self.expect(1 + 4 * 2)
+        with self.assertRaises(tsearch.Error):
+            async with objects.review("0" * 40, commits[0]):
+                pass
+        async with objects.review(*commits[:2]) as review:
+            self.assertEqual((await review.find("int")).count("-"), 1)
+
+
+@unittest.skipUnless(NO_REASON, REASON)
+class Ending(unittest.IsolatedAsyncioTestCase):
+    async def test_repositories_that_are_being_removed(self) -> None:
+        """They do not hold up the end."""
+        from tsearch.web.server import Server as Application
+        from tsearch.web.settings import Settings
+
+        application = Application(Settings(served=()), self.fail)
+        for _ in range(3):
+            leaving = asyncio.create_task(asyncio.sleep(SECONDS))
+            application._leaving.add(leaving)
+            leaving.add_done_callback(application._leaving.discard)
+        await asyncio.sleep(0)
+        await application._end()
+        self.assertEqual(application._leaving, set())
+
+
+class Told:
+    """In place of a session: it notes what it is told."""
+
+    life = 1
+
+    def __init__(self) -> None:
+        self.feeding = asyncio.Lock()
+        self.documents: dict[bytes, bytes] = {}
+
+    async def put(self, name: bytes, body: bytes) -> None:
+        self.documents[name] = body
+
+    async def publish(self) -> Published:
+        return Published(1, 1, len(self.documents), 0, 0, 0, 0)
+
+
+class Keeping(unittest.IsolatedAsyncioTestCase):
+    async def test_a_call_that_fails_between_two_changes(self) -> None:
+        """What was not sent then is sent at the next look."""
+        top = pathlib.Path(self.enterContext(tempfile.TemporaryDirectory()))
+        faults = [tsearch.TooSlow("too slow")]
+
+        async def before_change(name: bytes) -> None:
+            if name == b"b" and faults:
+                raise faults.pop()
+
+        session = Told()
+        kept = aio.Folder(session, top, before_change=before_change)
+        for text in "old", "newer":
+            for name in "abcd":
+                (top / name).write_text(text)
+            if text == "old":
+                await kept.refresh()
+        with self.assertRaises(tsearch.TooSlow):
+            await kept.refresh()
+        (top / "c").write_text("newest")
+        await kept.refresh()
+        self.assertEqual(session.documents, {b"a": b"newer", b"b": b"newer", b"c": b"newest", b"d": b"newer"})
+
+    async def test_a_session_that_another_one_has_started_again(self) -> None:
+        """Each source sends all that it has at its next look. What is dropped is removed."""
+        top = pathlib.Path(self.enterContext(tempfile.TemporaryDirectory()))
+        for folder in "ab":
+            (top / folder).mkdir()
+            (top / folder / "x").write_text(f"in {folder}\n")
+        async with aio.Session.started() as session:
+            kept = [aio.Folder(session, top / folder, prefix=f"{folder}:") for folder in "ab"]
+            for one in kept:
+                await one.refresh()
+            session.kill()
+            with self.assertRaises(tsearch.Ended):
+                await kept[0].refresh()
+            await session.restart(lambda changes: asyncio.sleep(0))
+            self.assertEqual((await kept[0].refresh()).put, 1)
+            self.assertEqual([hit.text for hit in await session.find("in")], [b"in a"])
+            self.assertEqual((await kept[1].refresh()).put, 1)
+            self.assertEqual([hit.text for hit in await session.find("in")], [b"in a", b"in b"])
+            self.assertEqual([one.totals for one in kept], [(1, 5), (1, 5)])
+            await kept[0].drop()
+            self.assertEqual([hit.text for hit in await session.find("in")], [b"in b"])
+            self.assertEqual(kept[0].totals, (0, 0))
+
+    def test_the_same_with_threads(self) -> None:
+        top = pathlib.Path(self.enterContext(tempfile.TemporaryDirectory()))
+        (top / "x").write_text("in\n")
+        with tsearch.Session() as session:
+            folder = tsearch.Folder(session, top)
+            folder.refresh()
+            session.kill()
+            session.restart(lambda changes: None)
+            self.assertEqual(len(session.find("in")), 0)
+            self.assertEqual(folder.refresh().put, 1)
+            self.assertEqual(len(session.find("in")), 1)
+
+
+if __name__ == "__main__":
+    unittest.main()

@@ -1,0 +1,13 @@
+use Rattle.std.proofs.Common.{ap}
+use Rattle.index.specs.State.{state_of}
+use Rattle.transcript.specs.declared.entry.Entry.TheVariants.{Refused}
+use Rattle.service.proofs.ItemLemmas.{named_fault, named_removed}
+use Rattle.service.proofs.items.remove_under.Goals as goal
+
+pub returns-in-Err-clause-entry : goal.returns-in-Err-clause-entry
+returns-in-Err-clause-entry c line = named_fault c.args.longest c.in-Err.error c.args.prefix.now line _ _ c.in-Err.ensures.fault (ap (Refused line) c.reason_of_name.ensures)
+
+pub returns-in-Ok-clause-entry : goal.returns-in-Ok-clause-entry
+returns-in-Ok-clause-entry c line =
+    named_removed c.args.longest c.args.desk.now.limit (state_of c.args.desk.now.accepted) c.args.prefix.now _ line _ c.in-Ok.ensures.name.1
+    (rw c.in-Ok.ensures.name.0 at (c.remove_under_name.ensures.entry line))

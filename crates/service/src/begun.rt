@@ -1,0 +1,12 @@
+//! Searches that are stopped after they were taken.
+
+/// A search that was stopped after its reader had taken what it needs.
+#[derive(Clone, Copy, Debug, PartialEq, Eq)]
+pub struct Begun {
+    /// The number of the search, from 1.
+    pub(crate) number: u32,
+    /// The number of the reader, from 1.
+    pub(crate) reader: u32,
+    /// The version of what was taken.
+    pub(crate) version: u32,
+}
