@@ -296,8 +296,8 @@ def removes_from_the_end(n):
 
 
 def removes_under_a_prefix(n):
-    """The names rise as their numbers fall, so each document goes from the end of its sets."""
-    puts = b"".join(put(b"f%04d" % (9_999 - number), b"one abcd two defg") for number in range(n))
+    """The names rise with their numbers, and the last name goes first, so each document goes from the end of its sets."""
+    puts = b"".join(put(b"f%04d" % number, b"one abcd two defg") for number in range(n))
     return after(puts + b"publish\n" * 3, b"removeunder f\npublish\n")
 
 

@@ -1,9 +1,9 @@
 -- What an index holds: how many commands were applied to it, and the documents that they leave.
-use Rattle.std.specs.Prelude.{ℕ, ◌+◌, ◌<◌, ◌≤◌, ◌≢◌, List, All, AllPairs, map, length, sum}
+use Rattle.std.specs.Prelude.{◌≡◌, true, ℕ, ◌+◌, ◌<◌, ◌≤◌, ◌≢◌, List, All, AllPairs, map, length, sum}
 use Rattle.std.specs.List.Sorted.{IsStrictlyIncreasing}
 use Rattle.index.specs.declared.command.Command.{Command}
-use Rattle.index.specs.Documents.{Document, documents_after, documents_of}
-use Rattle.index.specs.Text.{IsName, IsBody}
+use Rattle.index.specs.Documents.{Document, documents_after, documents_of, without}
+use Rattle.index.specs.Text.{IsName, IsBody, begins_with}
 
 -- version: the number of commands
 pub record State : Type 0 where
@@ -35,3 +35,10 @@ pub record IsState (s : State) : Type 0 where
   pub rise : IsStrictlyIncreasing (map (λ d. d.number) s.documents)
   pub good : All (λ d. IsGoodDocument s.version d) s.documents
   pub names : AllPairs (λ d e. d.name ≢ e.name) s.documents
+
+-- A document whose name begins with the text was taken out, which is no command.
+pub record IsTakenUnder (text : List ℕ) (old new : State) : Type 0 where
+  pub name : List ℕ
+  pub begins : begins_with text name ≡ true
+  pub left : new ≡ state old.version (without name old.documents)
+  pub fewer : length new.documents < length old.documents

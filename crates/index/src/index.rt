@@ -11,9 +11,9 @@ ghost use Rattle.query.specs.Query.{formula_of};
 ghost use Rattle.query.specs.Trigrams.{ListsTrigrams};
 ghost use Rattle.index.specs.Text.{IsName, begins_with};
 ghost use Rattle.index.specs.Documents.{document_at, number_of, has_under, meets, is_chosen, is_under, AreFirstInNameOrder};
-ghost use Rattle.index.specs.State.{applied, state_of, body_bytes, IsState};
+ghost use Rattle.index.specs.State.{applied, state_of, body_bytes, IsState, IsTakenUnder};
 ghost use Rattle.index.specs.Shared.{documents_shared};
-ghost use Rattle.index.specs.Private.Chosen.{document_numbered, documents_numbered, IsFirstUnder, IsTakenUnder};
+ghost use Rattle.index.specs.Private.Chosen.{document_numbered, documents_numbered, IsFirstUnder};
 ghost use Rattle.index.specs.Private.Store.{stored, IsStore, HasPlaceFor};
 
 use crate::body::Body;
@@ -28,6 +28,7 @@ use crate::store::Store;
 use posting::Trigrams;
 use query::Query;
 use std::alloc::{AllocError, Global};
+use std::cmp::Ordering;
 use std::collections::BTreeMap;
 use std::marker::Model;
 use std::ops::Bound;
@@ -222,25 +223,30 @@ impl Index {
         Ok(())
     }
 
-    /// Applies the `RemoveUnder` of this prefix, in time for the documents that go. The limit on commands is that of `apply`. It
-    /// takes no memory, and never returns an `Err`, although its type is that of `apply_put`.
+    /// Applies the `RemoveUnder` of this prefix, in time for the documents that go, each times the sets of its trigrams behind its
+    /// number; documents with the greatest numbers go fastest. The limit on commands is that of `apply`. It needs no memory, and
+    /// never returns an `Err`, although its type is that of `apply_put`.
     pub fn remove_under(&mut self, prefix: &Name) -> Result<(), AllocError>
         requires { self.old.version + 1 < 2 ^ 32 }
         ensures ok { OnOk result (self.new ≡ applied (remove_under_command prefix.now) self.old) }
         ensures err { OnErr result (self.new ≡ self.old) }
         ensures done { IsOk result }
     {
-        while self.take_first_under(prefix) {}
+        while self.take_one_under(prefix) {}
         self.version += 1;
         Ok(())
     }
 
-    /// Takes out the first document whose name begins with the prefix, and returns whether there is one. The version stays.
-    fn take_first_under(&mut self, prefix: &Name) -> bool
+    /// Takes out a document whose name begins with the prefix, and returns whether there is one. It is no command: the version
+    /// stays. So the `RemoveUnder` of a prefix can be carried out in pieces: after some documents were taken out, it leaves what it
+    /// would have left before. This needs no memory.
+    pub fn take_one_under(&mut self, prefix: &Name) -> bool
         ensures taken { IsTrue result → IsTakenUnder prefix.now self.old self.new }
+        ensures same { applied (remove_under_command prefix.now) self.new ≡ applied (remove_under_command prefix.now) self.old }
         ensures none { IsFalse result → (self.new ≡ self.old) × (has_under prefix.now self.old.documents ≡ false) }
     {
-        let Some(number) = first_number_under(&self.numbers, prefix) else {
+        let alloc = *self.store.slots.allocator();
+        let Some(number) = number_under(alloc, &self.numbers, prefix) else {
             return false;
         };
         let Some(occupant) = occupant_at(&self.store.slots, number) else {
@@ -470,6 +476,43 @@ fn first_under(alloc: Global, prefix: &[u8]) -> Result<Option<Bound<Name>>, Allo
         Err(NameError::BadByte) => Ok(None),
         Err(NameError::OutOfMemory) => Err(AllocError),
     }
+}
+
+/// The number of a document whose name begins with the prefix, if there is one. It is the last one of these in the order of names,
+/// unless memory runs out: documents mostly come in the order of their names, and the greatest number of a set is taken out at
+/// once, whereas behind a smaller one all others move.
+fn number_under(alloc: Global, numbers: &BTreeMap<Name, u32>, prefix: &Name) -> Option<u32>
+    ensures some { IfSome result (λ number. (name : List ℕ) × (begins_with prefix.now name ≡ true)
+        × (get (slice_cmp nat_cmp) numbers.now name ≡ Some number)) }
+    ensures none { IfNone result ((name : List ℕ) → begins_with prefix.now name ≡ true → get (slice_cmp nat_cmp) numbers.now name ≡ None) }
+{
+    match last_number_under(alloc, numbers, prefix) {
+        Some(number) => Some(number),
+        None => first_number_under(numbers, prefix),
+    }
+}
+
+/// The number that is entered under the last name that begins with the prefix. `None` does not say that there is none: it can also
+/// mean that memory ran out, or that no name of this length is behind all of those.
+fn last_number_under(alloc: Global, numbers: &BTreeMap<Name, u32>, prefix: &Name) -> Option<u32>
+    ensures some { IfSome result (λ number. (name : List ℕ) × (begins_with prefix.now name ≡ true)
+        × (get (slice_cmp nat_cmp) numbers.now name ≡ Some number)) }
+{
+    let text = prefix.as_bytes();
+    let Some(end) = prefix.end_of_names(alloc) else {
+        return None;
+    };
+    if prefix.cmp(&end) != Ordering::Less {
+        return None;
+    }
+    let mut names = numbers.range((Bound::Included(prefix), Bound::Excluded(&end)));
+    let Some((name, number)) = names.next_back() else {
+        return None;
+    };
+    if !name.as_bytes().starts_with(text) {
+        return None;
+    }
+    Some(*number)
 }
 
 /// The number that is entered under the first name that begins with the prefix, if there is one.

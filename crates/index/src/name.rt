@@ -113,6 +113,18 @@ impl Name {
         }
     }
 
+    /// The first name of the same length that is behind all names that begin with this one, if there is such a name and memory
+    /// for it. No contract depends on it.
+    pub(crate) fn end_of_names(&self, alloc: Global) -> Option<Name> {
+        let mut bytes = Vec::from_slice(alloc, self.as_bytes()).ok()?;
+        let next = match bytes.pop()? {
+            126 => 128,
+            last => last.checked_add(1)?,
+        };
+        bytes.push(next).ok()?;
+        Name::within(alloc, bytes.as_slice(), MAX_NAME).ok()
+    }
+
     /// The bytes of the name.
     pub fn as_bytes(&self) -> &[u8]
         ensures bytes { result.now ≡ self.now }

@@ -1,6 +1,6 @@
 -- The two copies stay in step, and are exchanged.
-use Rattle.std.proofs.Common.{◌≡◌, ℕ, List, [], ◌∷◌, ◌++◌, Option, take, fold, sym, ap, subst, ◌∙◌, arith, take_all}
-use Rattle.std.proofs.lemmas.List.{append-nil}
+use Rattle.std.proofs.Common.{◌≡◌, ℕ, List, [], ◌∷◌, ◌++◌, Option, drop, fold, sym, ap, subst, ◌∙◌, arith}
+use Rattle.std.proofs.lemmas.List.{append-nil, drop_all}
 use Rattle.left_right.specs.Register.{TurnsAt}
 use Rattle.published.specs.History.{Known}
 use Rattle.published.specs.declared.shelf.Operation.{Operation}
@@ -10,7 +10,7 @@ use Rattle.published.specs.declared.shelf.Shelf.{Shelf}
 use Rattle.published.specs.declared.log.Log.{Log}
 use Rattle.published.specs.Private.Shelf.{command_of, operated}
 use Rattle.published.specs.Private.Rule.{IsExact, IsKept, Meets}
-use Rattle.published.specs.Private.Copies.{CopiesState, InStep, IsAllDone, accepted_of, copies_state, copies_of}
+use Rattle.published.specs.Private.Copies.{CopiesState, InStep, IsAllDone, lacking, accepted_of, copies_state, copies_of}
 use Rattle.published.proofs.ShelfLemmas.{accepted_of-change, next_front, next_exact}
 use Rattle.published.proofs.Turns.{turns_at}
 
@@ -24,13 +24,19 @@ one_more shown pending pending' update was seen more =
 -- a spare copy that has each operation
 pub all_in : (shown spare : Shelf) (log : Log) → IsAllDone log → InStep shown spare log → spare ≡ fold operated shown log.pending.items
 all_in shown spare log done step =
-    ap (fold operated spare) (sym done.0) ∙ (step ∙ ap (fold operated shown) (take_all log.ahead log.pending.items (omega (arith, done.1))))
+    let none : lacking log ≡ [] =
+    ap (λ l. l ++ drop log.ahead log.pending.items) done.0 ∙ drop_all log.ahead log.pending.items (omega (arith, done.1)) in
+    ap (fold operated spare) (sym none) ∙ step
 
 -- and the two change places
-pub turned_step : (shown spare : Shelf) (log turned : Log) → IsAllDone log → InStep shown spare log → turned.behind.items ≡ log.pending.items → turned.ahead ≡ 0
-    → InStep spare shown turned
-turned_step shown spare log turned done step behind ahead =
-    ap (fold operated shown) behind ∙ (sym (all_in shown spare log done step) ∙ sym (ap (λ n. fold operated spare (take n turned.pending.items)) ahead))
+pub turned_step : (shown spare : Shelf) (log turned : Log) → IsAllDone log → InStep shown spare log → turned.behind.items ≡ log.pending.items
+    → turned.pending.items ≡ [] → turned.ahead ≡ 0 → InStep spare shown turned
+turned_step shown spare log turned done step behind none ahead =
+    ap (λ l. fold operated shown (l ++ drop turned.ahead turned.pending.items)) behind
+    ∙ (ap (λ l. fold operated shown (log.pending.items ++ drop turned.ahead l)) none
+    ∙ (ap (λ n. fold operated shown (log.pending.items ++ drop n [])) ahead
+    ∙ (ap (fold operated shown) (append-nil log.pending.items)
+    ∙ (sym (all_in shown spare log done step) ∙ sym (ap (fold operated spare) none)))))
 
 -- the shelf after the pending operations and the stamp of a front with all accepted commands
 module _ (shown next : Shelf) (pending : List Operation) (front : Known) (is : next ≡ fold operated shown (pending ++ Stamp front ∷ [])) where

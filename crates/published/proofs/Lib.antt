@@ -6,4 +6,4 @@ pub mod DocumentNames
 pub mod ShelfLemmas
 pub mod DeskLemmas
 pub mod CopiesLemmas
-pub mod FillLemmas
+pub mod LackingLemmas

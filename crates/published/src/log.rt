@@ -1,6 +1,6 @@
 //! The operations that one of the two copies lacks.
 
-ghost use Rattle.std.specs.Prelude.{◌≡◌, ◌<◌, ◌≤◌, [], ◌∷◌, ◌++◌, length, fold, take, IfOk, IfErr, OnOk, OnErr, MatchBool};
+ghost use Rattle.std.specs.Prelude.{◌≡◌, ◌<◌, ◌≤◌, [], ◌∷◌, ◌++◌, length, fold, drop, IfOk, IfErr, IfSome, IfNone, OnOk, OnErr, MatchBool};
 ghost use Rattle.published.specs.declared.shelf.Operation.TheVariants.{Change};
 ghost use Rattle.published.specs.declared.shelf.Update.TheVariants.{Put as put_update};
 ghost use Rattle.published.specs.Private.Shelf.{operated};
@@ -164,15 +164,34 @@ fn make_up(
 {
     let mut left = spare.fill_some(most)?;
     while left > 0 {
-        let Some(first) = behind.front() else {
+        let Some(work) = make_up_next(spare, behind)? else {
             return Ok(left);
         };
-        let work = spare.work(first);
-        spare.carry_out(first, first.is_large())?;
-        let _ = behind.pop_front();
         left = spare.fill_some(left.saturating_sub(work))?;
     }
     Ok(0)
+}
+
+/// Carries out the first of the operations that the spare copy lacks of the one that is shown, or a part of it, after which it is
+/// still lacking. Returns how much work that was, or `None` if nothing is lacking.
+fn make_up_next(
+    spare: &mut Shelf,
+    behind: &mut VecDeque<Operation>,
+) -> Result<Option<usize>, AllocError>
+    ensures same { fold operated spare.new behind.new.items ≡ fold operated spare.old behind.old.items }
+    ensures work { IfOk result (λ done. IfSome done (λ work. 0 < work)) }
+    ensures all { IfOk result (λ done. IfNone done (behind.new.items ≡ [])) }
+{
+    let Some(first) = behind.front() else {
+        return Ok(None);
+    };
+    if let Some(work) = spare.carry_out_part(first) {
+        return Ok(Some(work));
+    }
+    let work = spare.work(first);
+    spare.carry_out(first, first.is_large())?;
+    let _ = behind.pop_front();
+    Ok(Some(work))
 }
 
 /// Carries out what neither copy has, where the spare one has the first `ahead` of these operations. Returns how much of
@@ -185,20 +204,40 @@ fn run_ahead(
 ) -> Result<usize, AllocError>
     requires { ahead.old ≤ length pending.now.items }
     ensures within { ahead.new ≤ length pending.now.items }
-    ensures step { (shown : Shelf) → spare.old ≡ fold operated shown (take ahead.old pending.now.items)
-        → spare.new ≡ fold operated shown (take ahead.new pending.now.items) }
+    ensures same { fold operated spare.new (drop ahead.new pending.now.items) ≡ fold operated spare.old (drop ahead.old pending.now.items) }
 {
     let mut left = most;
     while left > 0 {
-        let Some(next) = pending.get(*ahead) else {
+        let Some(work) = run_ahead_next(spare, pending, ahead)? else {
             return Ok(left);
         };
-        let work = spare.work(next);
-        spare.carry_out(next, next.is_large())?;
-        *ahead += 1;
         left = spare.fill_some(left.saturating_sub(work))?;
     }
     Ok(0)
+}
+
+/// Carries out the first operation that neither copy has, or a part of it, after which it is still lacking. Returns how much work
+/// that was, or `None` if the spare copy has all of these operations.
+fn run_ahead_next(
+    spare: &mut Shelf,
+    pending: &VecDeque<Operation>,
+    ahead: &mut usize,
+) -> Result<Option<usize>, AllocError>
+    requires { ahead.old ≤ length pending.now.items }
+    ensures within { ahead.new ≤ length pending.now.items }
+    ensures same { fold operated spare.new (drop ahead.new pending.now.items) ≡ fold operated spare.old (drop ahead.old pending.now.items) }
+    ensures work { IfOk result (λ done. IfSome done (λ work. 0 < work)) }
+{
+    let Some(next) = pending.get(*ahead) else {
+        return Ok(None);
+    };
+    if let Some(work) = spare.carry_out_part(next) {
+        return Ok(Some(work));
+    }
+    let work = spare.work(next);
+    spare.carry_out(next, next.is_large())?;
+    *ahead += 1;
+    Ok(Some(work))
 }
 
 /// Carries out what neither copy has, where the spare one has the first `ahead` of these operations. Returns how many it has then.
@@ -210,10 +249,9 @@ fn fill_ahead<R: Threads + Sync>(
     ahead: usize,
 ) -> usize
     requires { ahead ≤ length pending.old.items }
-    ensures same { pending.new.items ≡ pending.old.items }
+    ensures operations { pending.new.items ≡ pending.old.items }
     ensures within { result ≤ length pending.old.items }
-    ensures step { (shown : Shelf) → spare.old ≡ fold operated shown (take ahead pending.old.items)
-        → spare.new ≡ fold operated shown (take result pending.old.items) }
+    ensures same { fold operated spare.new (drop result pending.old.items) ≡ fold operated spare.old (drop ahead pending.old.items) }
 {
     let (_, lacking) = pending.make_contiguous().split_at_mut(ahead);
     ahead + carry_out_all(rt, threads, spare, lacking)

@@ -1,7 +1,7 @@
 //! The writer and the readings share an index and the history that it represents. There are two copies, and
 //! each operation is carried out on both.
 
-ghost use Rattle.std.specs.Prelude.{◌≡◌, ◌+◌, ◌^◌, ◌<◌, OnOk, OnErr, MatchBool};
+ghost use Rattle.std.specs.Prelude.{◌≡◌, ◌+◌, ◌^◌, ◌<◌, ◌≤◌, OnOk, OnErr, IfOk, IfSome, IfNone, MatchBool};
 ghost use Rattle.index.specs.State.{applied};
 ghost use Rattle.published.specs.Private.Shelf.{command_of};
 
@@ -20,10 +20,6 @@ const LARGE: usize = 8_192;
 
 /// How much work it is to put a document into the set of a trigram, in bytes of bodies: a usual text has one for each eight bytes.
 const TRIGRAM_WORK: usize = 8;
-
-/// What a remove of all names under a prefix counts as, in bytes of bodies: more than a piece of work has, since its documents are
-/// not counted, and far less than all of a publish may have.
-const WORK_UNDER_A_PREFIX: usize = 1 << 30;
 
 /// A command whose name and body are shared by both copies.
 #[derive(Drop)]
@@ -121,6 +117,25 @@ impl Shelf {
         Ok(())
     }
 
+    /// Carries out a part of the operation, if it is a remove of all names under a prefix and there is such a name: takes out
+    /// one document. Returns about how much work that was. The operation still has to be carried out, and then does what it would
+    /// have done before.
+    pub(crate) fn carry_out_part(&mut self, operation: &Operation) -> Option<usize>
+        ensures part { operated self.new operation.now ≡ operated self.old operation.now }
+        ensures work { IfSome result (λ work. 0 < work) }
+        ensures none { IfNone result (self.new ≡ self.old) }
+    {
+        let Operation::Change(Update::RemoveUnder(prefix)) = operation else {
+            return None;
+        };
+        let before = self.index.held_bytes();
+        if !self.index.take_one_under(prefix) {
+            return None;
+        }
+        let bytes = before.saturating_sub(self.index.held_bytes());
+        Some(LEAST_WORK.saturating_add(bytes as usize))
+    }
+
     /// Puts the documents that wait into the sets of their trigrams, in up to `threads` threads. An `Err` means that memory ran
     /// out; some may then still wait.
     pub(crate) fn fill<R: Threads + Sync>(
@@ -136,7 +151,8 @@ impl Shelf {
     /// Puts a document that waits further into the sets of its trigrams: into as many as come to about `most` bytes of bodies, and one
     /// at least. Returns how much of `most` is left, which is 0 if it still waits. An `Err` means that memory ran out.
     pub(crate) fn fill_some(&mut self, most: usize) -> Result<usize, AllocError>
-        ensures { self.new ≡ self.old }
+        ensures same { self.new ≡ self.old }
+        ensures left { IfOk result (λ left. left ≤ most) }
     {
         let sets = (most / TRIGRAM_WORK).max(1);
         let left = self.index.fill_some(sets)?;
@@ -153,8 +169,11 @@ impl Shelf {
     }
 
     /// About how much work it is to carry the operation out: the bytes of the body that it brings and of the one that it takes
-    /// away, and `LEAST_WORK` more. The body of a large new document is left to `fill_some`.
-    pub(crate) fn work(&self, operation: &Operation) -> usize {
+    /// away, and `LEAST_WORK` more. The body of a large new document is left to `fill_some`, and the documents under a prefix to
+    /// `carry_out_part`.
+    pub(crate) fn work(&self, operation: &Operation) -> usize
+        ensures { 0 < result }
+    {
         let bytes = match operation {
             Operation::Change(Update::Put(name, incoming)) => match self.bytes_of(name) {
                 None if operation.is_large() => 0,
@@ -162,7 +181,7 @@ impl Shelf {
                 Some(taken) => incoming.len().saturating_add(taken),
             },
             Operation::Change(Update::Remove(name)) => self.bytes_of(name).unwrap_or(0),
-            Operation::Change(Update::RemoveUnder(_)) => WORK_UNDER_A_PREFIX,
+            Operation::Change(Update::RemoveUnder(_)) => 0,
             Operation::Stamp(_) => 0,
         };
         bytes.saturating_add(LEAST_WORK)

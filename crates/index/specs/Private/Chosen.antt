@@ -1,12 +1,10 @@
 -- The documents that have the numbers of a list.
-use Rattle.std.specs.Prelude.{◌≡◌, ℕ, ◌<◌, true, List, [], ◌∷◌, length, Option, Some, None, flat_map}
+use Rattle.std.specs.Prelude.{◌≡◌, ℕ, List, [], ◌∷◌, Option, Some, None, flat_map}
 use Rattle.std.specs.Ordering.{nat_cmp, is_le}
 use Rattle.std.specs.Cmp.Lexicographic.{slice_cmp}
 use Rattle.std.specs.BTreeMap.Range.{is_from_start}
 use Rattle.std.specs.declared.ops.Bound.{Bound}
-use Rattle.index.specs.Documents.{Document, document, document_at, without}
-use Rattle.index.specs.State.{State, state}
-use Rattle.index.specs.Text.{begins_with}
+use Rattle.index.specs.Documents.{Document, document, document_at}
 
 -- the document with a number, if there is one
 abbrev pub numbered_document : ℕ → Option (List ℕ × List ℕ) → List Document
@@ -24,10 +22,3 @@ documents_numbered documents numbers = flat_map (document_numbered documents) nu
 -- the first ones there.
 abbrev pub IsFirstUnder : List ℕ → Bound (List ℕ) → Type 0
 IsFirstUnder text first = (name : List ℕ) → is_from_start (slice_cmp nat_cmp) first name ≡ is_le (slice_cmp nat_cmp text name)
-
--- A document whose name begins with the text was taken out.
-pub record IsTakenUnder (text : List ℕ) (old new : State) : Type 0 where
-  pub name : List ℕ
-  pub begins : begins_with text name ≡ true
-  pub left : new ≡ state old.version (without name old.documents)
-  pub fewer : length new.documents < length old.documents

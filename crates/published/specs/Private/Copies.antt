@@ -1,5 +1,5 @@
 -- Both copies of a shelf, and the operations that one of them lacks.
-use Rattle.std.specs.Prelude.{◌≡◌, List, [], ◌++◌, length, take, fold}
+use Rattle.std.specs.Prelude.{◌≡◌, List, [], ◌++◌, length, drop, fold}
 use Rattle.index.specs.declared.command.Command.{Command}
 use Rattle.published.specs.History.{Known}
 use Rattle.published.specs.Private.Shelf.{operated, commands_in}
@@ -7,9 +7,14 @@ use Rattle.published.specs.declared.shelf.Shelf.{Shelf}
 use Rattle.published.specs.declared.shelf.Operation.{Operation}
 use Rattle.published.specs.declared.log.Log.{Log}
 
--- The spare copy with what it lacks is the copy that is shown with what the spare one has before it.
+-- the operations that the spare copy lacks
+abbrev pub lacking : Log → List Operation
+lacking log = log.behind.items ++ drop log.ahead log.pending.items
+
+-- Each copy with all that it lacks is the same. So a part of the first operation that the spare one lacks may be done, if the
+-- operation then leaves what it would have left.
 abbrev pub InStep : Shelf → Shelf → Log → Type 0
-InStep shown spare log = fold operated spare log.behind.items ≡ fold operated shown (take log.ahead log.pending.items)
+InStep shown spare log = fold operated spare (lacking log) ≡ fold operated shown log.pending.items
 
 -- The spare copy has each operation.
 abbrev pub IsAllDone : Log → Type 0

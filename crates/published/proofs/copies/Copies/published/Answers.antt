@@ -46,6 +46,6 @@ invariant_of-result-2 g c =
     let was : c.show_as.result.spare.value ≡ shown = search rules in
     let turned = c.turned-log in (
       subst (λ (z : Shelf × Shelf). InStep z.0 z.1 turned.result) (λ k. (sym now k, sym was k))
-          (turned_step shown up.new.spare up.new.self turned.result done step turned.ensures.behind turned.ensures.ahead),
+          (turned_step shown up.new.spare up.new.self turned.result done step turned.ensures.behind turned.ensures.pending turned.ensures.ahead),
       tt,
     )

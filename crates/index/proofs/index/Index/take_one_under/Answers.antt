@@ -1,18 +1,18 @@
-use Rattle.std.proofs.Common.{◌≡◌, None, Some, refl, sym, ◌∙◌, ap, arith, length, cond}
+use Rattle.std.proofs.Common.{◌≡◌, ◌+◌, None, Some, refl, sym, ◌∙◌, ap, arith, length, cond}
 use Rattle.std.specs.Prelude.{is_some, bytes_eq}
 use Rattle.std.specs.Ordering.{nat_cmp}
 use Rattle.std.specs.Cmp.Lexicographic.{slice_cmp}
 use Rattle.std.specs.BTreeMap.{get}
 use Rattle.std.proofs.lemmas.Bool.{false≢true}
-use Rattle.index.specs.Documents.{document_at, number_of, has_under, without}
+use Rattle.index.specs.Documents.{document_at, number_of, has_under, without, without_under}
 use Rattle.index.specs.State.{state}
 use Rattle.index.specs.Private.Slots.{documents_in}
 use Rattle.index.specs.Private.Store.{stored}
 use Rattle.index.proofs.ApplyLemmas.{document_at-named, without-numbered}
 use Rattle.index.proofs.StoredLemmas.{length-without}
 use Rattle.index.proofs.IndexLemmas.{numbered, named, IsIndex-without, changed_at}
-use Rattle.index.proofs.RemovedLemmas.{none_under, named_at}
-use Rattle.index.proofs.index.Index.take_first_under.Goals as goal
+use Rattle.index.proofs.RemovedLemmas.{none_under, named_at, still_without}
+use Rattle.index.proofs.index.Index.take_one_under.Goals as goal
 
 pub returns-in_default-clause-none : goal.returns-in_default-clause-none
 returns-in_default-clause-none c = λ no. (
@@ -65,3 +65,17 @@ returns-clause-taken c = λ yes.
       left = ap (state version) left ∙ ap (λ s. state s.version (without first.0 s.documents)) c.self.view_is;
       fewer = omega (arith, fewer, ap length c.take_out.ensures.documents, ap (λ s. length s.documents) c.self.view_is);
     }
+
+pub returns-clause-same : goal.returns-clause-same
+returns-clause-same c =
+    let version = c.self.inside.version in
+    let ds = stored c.self.inside.store in
+    let text = c.args.prefix.now in
+    let rise = numbered version ds c.self.invariant.is_state in
+    let number = c.in-Some.number in
+    let first = c.in-Some.ensures.some in
+    let found : number_of first.0 ds ≡ Some number = sym (c.self.invariant.number first.0) ∙ first.2 in
+    let left = c.take_out.ensures.documents ∙ sym (without-numbered ds rise (named version ds c.self.invariant.is_state) first.0 number found) in
+    ap (λ xs. state (version + 1) (without_under text xs)) left
+    ∙ (ap (state (version + 1)) (still_without text first.0 ds first.1)
+    ∙ ap (λ s. state (s.version + 1) (without_under text s.documents)) c.self.view_is)
