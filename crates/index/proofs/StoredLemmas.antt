@@ -641,3 +641,71 @@ lists_nothing none e =
       rising = λ k inside. absurd (omega arith);
       members = λ t. (λ there. absurd (omega (arith, there.1)), λ is. absurd (false≢true (sym (no_trigrams t) ∙ is)));
     })
+
+-- the sets after they are emptied
+pub AreSetsOf-over : (ds : List Document) (old new : Sets) → AreSetsOf ds old → new.live ≡ old.live
+    → ((t n : ℕ) → holds new.postings t n ≡ false) → ((t n : ℕ) → is_whole new.waiting t n ≡ false) → AreSetsOf ds new
+AreSetsOf-over ds old new kept live none waits = record {
+  live = ap (λ l. l.members) live ∙ kept.live;
+  postings = λ t n whole. absurd (false≢true (sym (waits t n) ∙ whole));
+  few = λ t n held. absurd (false≢true (sym (none t n) ∙ held));
+}
+
+-- the sets after the body of a document that waits is replaced
+pub AreSetsOf-waits : (ds : List Document) (number : ℕ) (name old_body body trigrams : List ℕ) (old new : Sets) → AreSetsOf ds old
+    → document_at number ds ≡ Some (name, old_body) → ListsTrigrams old_body trigrams
+    → ((t : ℕ) → is_whole old.waiting t number ≡ false) → new.live.members ≡ old.live.members → new.waiting ≡ old.waiting
+    → ((t n : ℕ) → holds new.postings t n ≡ (holds old.postings t n && not (has trigrams t && n == number)))
+    → AreSetsOf (map (with_body_at number body) ds) new
+AreSetsOf-waits ds number name old_body body trigrams old new kept at lists waits live waiting sets = record {
+  live = live ∙ (kept.live ∙ sym (numbers-replaced (λ d. d.number == number) body ds));
+  postings = λ t n whole. there t n whole (n == number) refl;
+  few = λ t n held. still t n held (n == number) refl;
+}
+  where
+    left_as : (was f : Bool) → (was && not (f && false)) ≡ was
+    left_as true true = refl
+    left_as true false = refl
+    left_as false true = refl
+    left_as false false = refl
+
+    none : (was f : Bool) → (was ≡ true → f ≡ true) → (was && not (f && true)) ≡ false
+    none true true h = refl
+    none true false h = absurd (false≢true (h refl))
+    none false true h = refl
+    none false false h = refl
+
+    sets_are : (t n : ℕ) (same : Bool) → (n == number) ≡ same
+        → holds new.postings t n ≡ (holds old.postings t n && not (has trigrams t && same))
+    sets_are t n same e = subst (λ b. holds new.postings t n ≡ (holds old.postings t n && not (has trigrams t && b))) e (sets t n)
+
+    other_at : (n : ℕ) → (n == number) ≡ false → document_at n (map (with_body_at number body) ds) ≡ document_at n ds
+    other_at n e =
+        subst (λ b. document_at n (map (with_body_at number body) ds) ≡ cond b (option_map (λ d. (d.0, body)) (document_at n ds)) (document_at n ds)) e
+        (document_at-replaced number body ds n)
+
+    there : (t n : ℕ) → is_whole new.waiting t n ≡ true → (same : Bool) → (n == number) ≡ same
+        → holds new.postings t n ≡ trigrams_at (map (with_body_at number body) ds) n t
+    there t n whole true e =
+        let same : n ≡ number = grind (arith, nat_tests) in
+        absurd (false≢true (sym (waits t) ∙ (ap (is_whole old.waiting t) (sym same) ∙ (ap (λ w. is_whole w t n) (sym waiting) ∙ whole))))
+    there t n whole false e =
+        sets_are t n false e
+        ∙ (left_as (holds old.postings t n) (has trigrams t)
+        ∙ (kept.postings t n (ap (λ w. is_whole w t n) (sym waiting) ∙ whole) ∙ ap (λ found. trigrams_shown found t) (sym (other_at n e))))
+
+    still : (t n : ℕ) → holds new.postings t n ≡ true → (same : Bool) → (n == number) ≡ same
+        → trigrams_at (map (with_body_at number body) ds) n t ≡ true
+    still t n held true e =
+        let same : n ≡ number = grind (arith, nat_tests) in
+        let is : document_at n ds ≡ Some (name, old_body) = ap (λ m. document_at m ds) same ∙ at in
+        absurd
+        (false≢true
+        (sym
+        (sets_are t n true e
+        ∙ none (holds old.postings t n) (has trigrams t)
+        (λ was. listed old_body trigrams lists t ∙ (ap (λ found. trigrams_shown found t) (sym is) ∙ kept.few t n was)))
+        ∙ held))
+    still t n held false e =
+        ap (λ found. trigrams_shown found t) (other_at n e)
+        ∙ kept.few t n (sym (sets_are t n false e ∙ left_as (holds old.postings t n) (has trigrams t)) ∙ held)

@@ -156,16 +156,23 @@ impl Index {
     }
 
     /// As `apply_put`, but a new document waits to be put into the sets of its trigrams, until `fill` puts all that wait there
-    /// together.
+    /// together, or `fill_some` puts it there. A document that waits with all its trigrams goes on to wait.
     pub fn put_later(&mut self, name: &Name, held: &Held) -> Result<(), AllocError>
         requires { self.old.version + 1 < 2 ^ 32 }
         ensures ok { OnOk result (self.new ≡ applied (put_command name.now held.now) self.old) }
         ensures err { OnErr result (self.new ≡ self.old) }
     {
-        match self.number(name) {
-            Some(_) => self.apply_put(name, held),
-            None => self.put_new_later(name, held),
+        let Some(number) = self.number(name) else {
+            return self.put_new_later(name, held);
+        };
+        if !self.store.sets.has_waiting(number) {
+            return self.apply_put(name, held);
         }
+        let held = held.share()?;
+        let _trigrams = held.trigrams();
+        self.store.replace_later(number, held);
+        self.version += 1;
+        Ok(())
     }
 
     fn put_new_later(&mut self, name: &Name, held: &Held) -> Result<(), AllocError>
@@ -182,6 +189,14 @@ impl Index {
         self.store.put_later(number, Occupant { name: own, held });
         self.version = number;
         Ok(())
+    }
+
+    /// Says that `fill` follows. Until then removes may empty the sets of the trigrams and have all documents wait, where it takes
+    /// about as long to put them there anew as to take out those that go.
+    pub fn expect_fill(&mut self)
+        ensures { self.new ≡ self.old }
+    {
+        self.store.expects_fill = true;
     }
 
     /// Puts the documents that wait into the sets of their trigrams, in up to `threads` threads, each with a range of the

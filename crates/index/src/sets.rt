@@ -136,6 +136,37 @@ impl Sets {
         self.waiting = Some(with_waiting(self.waiting, number));
     }
 
+    /// Empties the sets of all trigrams, and has all documents wait to be put into them. It needs no memory, and gives back that of
+    /// the sets.
+    pub(crate) fn start_over(&mut self, alloc: Global)
+        ensures live { self.new.live ≡ self.old.live }
+        ensures postings { (t n : ℕ) → holds self.new.postings t n ≡ false }
+        ensures waiting { (t n : ℕ) → is_whole self.new.waiting t n ≡ false }
+    {
+        self.postings = Postings::new(alloc);
+        self.waiting = Some(Waiting::From(0));
+    }
+
+    /// Whether the document with this number waits, with all its trigrams, for `fill`.
+    pub(crate) fn has_waiting(&self, number: u32) -> bool
+        ensures { result ≡ true → (t : ℕ) → is_whole self.now.waiting t number ≡ false }
+    {
+        match self.waiting {
+            Some(Waiting::From(first)) => first <= number,
+            _ => false,
+        }
+    }
+
+    /// Takes the document with this number, which waits, out of the sets of these trigrams, which are those of its body.
+    pub(crate) fn withdraw(&mut self, number: u32, trigrams: &Trigrams)
+        ensures live { self.new.live.members ≡ self.old.live.members }
+        ensures waiting { self.new.waiting ≡ self.old.waiting }
+        ensures postings { (trigram n : ℕ) → holds self.new.postings trigram n
+            ≡ (holds self.old.postings trigram n && not (has trigrams.now trigram && n == number)) }
+    {
+        self.postings.withdraw(number, trigrams);
+    }
+
     /// Puts the document with this number and these trigrams, which waits, into at most `most` more of their sets, in the order of
     /// the trigrams, from the trigram `from` on. Returns how many of `most` are left; if that is not 0, it waits no more.
     ///

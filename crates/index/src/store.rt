@@ -1,11 +1,11 @@
 //! What an index keeps of its documents: names and bodies by number, and the sets by which they are found.
 
-ghost use Rattle.std.specs.Prelude.{◌||◌, ◌≡◌, ℕ, ◌+◌, ◌<◌, ◌^◌, List, [], ◌∷◌, ◌++◌, length, map, OnOk, IfOk, IsSome};
+ghost use Rattle.std.specs.Prelude.{◌||◌, ◌≡◌, ℕ, false, ◌+◌, ◌<◌, ◌^◌, List, [], ◌∷◌, ◌++◌, length, map, OnOk, IfOk, IsSome};
 ghost use Rattle.query.specs.Trigrams.{ListsTrigrams};
 ghost use Rattle.index.specs.Documents.{document, document_at};
 ghost use Rattle.index.specs.State.{body_bytes};
 ghost use Rattle.posting.specs.Postings.{is_listed};
-ghost use Rattle.index.specs.Private.Sets.{is_waiting};
+ghost use Rattle.index.specs.Private.Sets.{is_waiting, is_whole};
 ghost use Rattle.index.specs.Private.Slots.{documents_in, documents_of_slot, without_number, with_body_at};
 ghost use Rattle.index.specs.Private.Store.{stored, IsStore, HasPlaceFor, IsReadyFor};
 
@@ -15,6 +15,12 @@ use crate::slots::{Occupant, Slot, compact, exchange, give_back, occupant_at, ta
 use posting::{Entry, Trigrams};
 use std::alloc::{AllocError, Global};
 use std::thread::Threads;
+
+/// A document that is taken out counts as so many, and those behind it, which move in the sets of its trigrams, count too. So taking
+/// out takes about as long as to put documents into empty sets that are one for each `DOCUMENTS_MOVED` of these.
+const DOCUMENTS_MOVED: usize = 128;
+
+const MOVED_WITH_ONE: usize = 1024;
 
 /// The documents of an index, with their sets.
 #[derive(Drop)]
@@ -27,6 +33,10 @@ pub(crate) struct Store {
     pub(crate) count: usize,
     /// The total length of all bodies, in bytes.
     pub(crate) held_bytes: u64,
+    /// Whether `fill` follows. No contract depends on it.
+    pub(crate) expects_fill: bool,
+    /// How many documents have counted as moved since then.
+    moved: usize,
 }
 
 impl Store {
@@ -40,6 +50,8 @@ impl Store {
             sets: Sets::new(alloc),
             count: 0,
             held_bytes: 0,
+            expects_fill: false,
+            moved: 0,
         }
     }
 
@@ -55,8 +67,34 @@ impl Store {
     }
 
     /// Takes out the document with this number, if there is one, and drops it. This takes no memory, and gives back what
-    /// the other documents do not need; room that was made may go with it.
+    /// the other documents do not need; room that was made may go with it. Where `fill` follows, and this has taken about as long
+    /// as it takes to put all that are left into empty sets, the sets are emptied, and all documents wait.
     pub(crate) fn take_out(&mut self, number: u32)
+        requires { (last : ℕ) × IsStore last self.old }
+        ensures documents { stored self.new ≡ without_number number (stored self.old) }
+        ensures store { (last : ℕ) → IsStore last self.old → IsStore last self.new }
+    {
+        self.count_moved(number);
+        self.take_out_now(number);
+    }
+
+    /// Counts the documents that move if the one with this number is taken out. If that are too many, and `fill` follows, the sets
+    /// are emptied.
+    fn count_moved(&mut self, number: u32)
+        ensures documents { stored self.new ≡ stored self.old }
+        ensures store { (last : ℕ) → IsStore last self.old → IsStore last self.new }
+    {
+        if !self.expects_fill || self.sets.has_waiting(number) {
+            return;
+        }
+        self.moved = self.moved.saturating_add(self.moved_by(number));
+        if self.moved / DOCUMENTS_MOVED > self.count {
+            self.start_over();
+        }
+    }
+
+    /// Takes out the document with this number, if there is one.
+    fn take_out_now(&mut self, number: u32)
         requires { (last : ℕ) × IsStore last self.old }
         ensures documents { stored self.new ≡ without_number number (stored self.old) }
         ensures store { (last : ℕ) → IsStore last self.old → IsStore last self.new }
@@ -68,6 +106,26 @@ impl Store {
             compact(&mut self.slots, self.count);
             give_back(&mut self.slots);
         }
+    }
+
+    /// How many documents move, about, if the one with this number is taken out.
+    fn moved_by(&self, number: u32) -> usize {
+        let last = match self.slots.last() {
+            Some(slot) => slot.number,
+            None => 0,
+        };
+        let behind = last.saturating_sub(number) as usize;
+        behind.min(self.count).saturating_add(MOVED_WITH_ONE)
+    }
+
+    /// Empties the sets, and has all documents wait for `fill`. The documents stay as they are. It needs no memory.
+    fn start_over(&mut self)
+        ensures documents { stored self.new ≡ stored self.old }
+        ensures store { (last : ℕ) → IsStore last self.old → IsStore last self.new }
+    {
+        let alloc = *self.slots.allocator();
+        self.sets.start_over(alloc);
+        self.moved = 0;
     }
 
     /// Puts in a document with this number, for which there is room.
@@ -114,6 +172,8 @@ impl Store {
         ensures documents { stored self.new ≡ stored self.old }
         ensures store { (last : ℕ) → IsStore last self.old → IsStore last self.new }
     {
+        self.expects_fill = false;
+        self.moved = 0;
         let Some(waiting) = self.sets.waiting else {
             return Ok(());
         };
@@ -180,6 +240,23 @@ impl Store {
         self.sets.replace(number, change);
         self.held_bytes += held.body().as_bytes().len() as u64;
         if let Some(old) = exchange(&mut self.slots, number, held) {
+            self.held_bytes -= old.body().as_bytes().len() as u64;
+        }
+    }
+
+    /// Replaces the body of the document with this number, which waits with all its trigrams, and goes on to wait. It needs no
+    /// memory.
+    pub(crate) fn replace_later(&mut self, number: u32, held: Held)
+        requires store { (last : ℕ) × IsStore last self.old }
+        requires there { IsSome (document_at number (stored self.old)) }
+        requires waits { (t : ℕ) → is_whole self.old.sets.waiting t number ≡ false }
+        requires bytes { body_bytes (stored self.old) + length held < 2 ^ 64 }
+        ensures documents { stored self.new ≡ map (with_body_at number held) (stored self.old) }
+        ensures store { (last : ℕ) → IsStore last self.old → IsStore last self.new }
+    {
+        self.held_bytes += held.body().as_bytes().len() as u64;
+        if let Some(old) = exchange(&mut self.slots, number, held) {
+            self.sets.withdraw(number, old.trigrams());
             self.held_bytes -= old.body().as_bytes().len() as u64;
         }
     }
