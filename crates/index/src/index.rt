@@ -128,20 +128,59 @@ impl Index {
     }
 
     /// Applies the `Put` of this name and body, which the index then shares with the caller. The limit on commands is
-    /// that of `apply`. An `Err` means that memory ran out, or that the name or the body has too many handles; the
-    /// index is then as it was.
+    /// that of `apply`. A document that waits with all its trigrams goes on to wait. An `Err` means that memory ran out, or that the
+    /// name or the body has too many handles; the index is then as it was.
     pub fn apply_put(&mut self, name: &Name, held: &Held) -> Result<(), AllocError>
         requires { self.old.version + 1 < 2 ^ 32 }
         ensures ok { OnOk result (self.new ≡ applied (put_command name.now held.now) self.old) }
         ensures err { OnErr result (self.new ≡ self.old) }
     {
+        match self.number(name) {
+            Some(number) => self.replace(number, name, held),
+            None => self.put_new(name, held),
+        }
+    }
+
+    /// As `apply_put`, but a new document waits to be put into the sets of its trigrams, until `fill` puts all that wait there
+    /// together, or `fill_some` puts it there.
+    pub fn put_later(&mut self, name: &Name, held: &Held) -> Result<(), AllocError>
+        requires { self.old.version + 1 < 2 ^ 32 }
+        ensures ok { OnOk result (self.new ≡ applied (put_command name.now held.now) self.old) }
+        ensures err { OnErr result (self.new ≡ self.old) }
+    {
+        match self.number(name) {
+            Some(number) => self.replace(number, name, held),
+            None => self.put_new_later(name, held),
+        }
+    }
+
+    /// Replaces the body of the document with this number and name.
+    fn replace(&mut self, number: u32, name: &Name, held: &Held) -> Result<(), AllocError>
+        requires few { self.old.version + 1 < 2 ^ 32 }
+        requires there { number_of name.now self.old.documents ≡ Some number }
+        ensures ok { OnOk result (self.new ≡ applied (put_command name.now held.now) self.old) }
+        ensures err { OnErr result (self.new ≡ self.old) }
+    {
         let held = held.share()?;
-        if let Some(number) = self.number(name) {
-            let change = self.store.prepare(number, held.trigrams())?;
-            self.store.replace(number, &change, held);
+        if self.store.sets.has_waiting(number) {
+            let _trigrams = held.trigrams();
+            self.store.replace_later(number, held);
             self.version += 1;
             return Ok(());
         }
+        let change = self.store.prepare(number, held.trigrams())?;
+        self.store.replace(number, &change, held);
+        self.version += 1;
+        Ok(())
+    }
+
+    fn put_new(&mut self, name: &Name, held: &Held) -> Result<(), AllocError>
+        requires few { self.old.version + 1 < 2 ^ 32 }
+        requires new { number_of name.now self.old.documents ≡ None }
+        ensures ok { OnOk result (self.new ≡ applied (put_command name.now held.now) self.old) }
+        ensures err { OnErr result (self.new ≡ self.old) }
+    {
+        let held = held.share()?;
         let number = self.version + 1;
         let own = enter(
             &mut self.numbers,
@@ -152,26 +191,6 @@ impl Index {
         )?;
         self.store.put_in(number, Occupant { name: own, held });
         self.version = number;
-        Ok(())
-    }
-
-    /// As `apply_put`, but a new document waits to be put into the sets of its trigrams, until `fill` puts all that wait there
-    /// together, or `fill_some` puts it there. A document that waits with all its trigrams goes on to wait.
-    pub fn put_later(&mut self, name: &Name, held: &Held) -> Result<(), AllocError>
-        requires { self.old.version + 1 < 2 ^ 32 }
-        ensures ok { OnOk result (self.new ≡ applied (put_command name.now held.now) self.old) }
-        ensures err { OnErr result (self.new ≡ self.old) }
-    {
-        let Some(number) = self.number(name) else {
-            return self.put_new_later(name, held);
-        };
-        if !self.store.sets.has_waiting(number) {
-            return self.apply_put(name, held);
-        }
-        let held = held.share()?;
-        let _trigrams = held.trigrams();
-        self.store.replace_later(number, held);
-        self.version += 1;
         Ok(())
     }
 

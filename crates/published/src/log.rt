@@ -113,7 +113,7 @@ impl Log {
     }
 
     /// Carries out on the spare copy all that it lacks, in up to `threads` threads, after bodies are analysed that are not yet. If
-    /// memory runs out for an operation, that one and those after it stay in the log.
+    /// memory runs out for an operation, that one and those after it stay in the log. `Shelf::fill` is to follow.
     pub(crate) fn bring_up_all<R: Threads + Sync>(
         &mut self,
         rt: &R,
@@ -123,6 +123,7 @@ impl Log {
         ensures step { (shown : Shelf) → InStep shown spare.old self.old → InStep shown spare.new self.new }
         ensures pending { self.new.pending.items ≡ self.old.pending.items }
     {
+        spare.expect_fill();
         match make_up(spare, &mut self.behind, usize::MAX) {
             Ok(0) => {}
             Ok(_) => self.ahead = fill_ahead(rt, threads, spare, &mut self.pending, self.ahead),

@@ -136,6 +136,13 @@ impl Shelf {
         Some(LEAST_WORK.saturating_add(bytes as usize))
     }
 
+    /// Says that `fill` follows. Until then removes may have all documents wait for it, where that takes less time.
+    pub(crate) fn expect_fill(&mut self)
+        ensures { self.new ≡ self.old }
+    {
+        self.index.expect_fill();
+    }
+
     /// Puts the documents that wait into the sets of their trigrams, in up to `threads` threads. An `Err` means that memory ran
     /// out; some may then still wait.
     pub(crate) fn fill<R: Threads + Sync>(
