@@ -149,7 +149,7 @@ impl Index {
         ensures err { OnErr result (self.new ≡ self.old) }
     {
         match self.number(name) {
-            Some(number) => self.replace(number, name, held),
+            Some(_) => self.apply_put(name, held),
             None => self.put_new_later(name, held),
         }
     }
