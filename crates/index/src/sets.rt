@@ -18,6 +18,13 @@ pub(crate) struct Change {
     gone: Trigrams,
 }
 
+impl Change {
+    /// Whether more than so many trigrams come, or more than so many go.
+    pub(crate) fn has_more(&self, most: usize) -> bool {
+        are_more(&self.fresh, most) || are_more(&self.gone, most)
+    }
+}
+
 /// Which documents wait to be put into the sets of their trigrams.
 #[derive(Clone, Copy)]
 pub(crate) enum Waiting {
@@ -201,6 +208,18 @@ impl Waiting {
             Waiting::From(first) => first,
         }
     }
+}
+
+/// Whether these are more than so many.
+fn are_more(trigrams: &Trigrams, most: usize) -> bool {
+    let mut left = most;
+    for _ in trigrams.iter() {
+        if left == 0 {
+            return true;
+        }
+        left -= 1;
+    }
+    false
 }
 
 /// What waits once the document with this number, which is above all others, waits too.

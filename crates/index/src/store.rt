@@ -22,6 +22,9 @@ const DOCUMENTS_MOVED: usize = 128;
 
 const MOVED_WITH_ONE: usize = 1024;
 
+/// A change is large if a trigram comes or goes for each so many bytes of the body: a usual text has a trigram for each eight bytes.
+const BYTES_FOR_A_CHANGE: usize = 32;
+
 /// The documents of an index, with their sets.
 #[derive(Drop)]
 pub(crate) struct Store {
@@ -121,6 +124,7 @@ impl Store {
     /// Empties the sets, and has all documents wait for `fill`. The documents stay as they are. It needs no memory.
     fn start_over(&mut self)
         ensures documents { stored self.new ≡ stored self.old }
+        ensures waits { (t n : ℕ) → is_whole self.new.sets.waiting t n ≡ false }
         ensures store { (last : ℕ) → IsStore last self.old → IsStore last self.new }
     {
         let alloc = *self.slots.allocator();
@@ -229,7 +233,17 @@ impl Store {
         }
     }
 
-    /// Replaces the body of the document with this number, for which there is room.
+    /// How many documents have counted as moved with those that move if the document with this number is changed so, and has so many
+    /// bytes then: those of one that is taken out, if the change is large.
+    fn moved_with(&self, number: u32, change: &Change, bytes: usize) -> usize {
+        if !self.expects_fill || !change.has_more(bytes / BYTES_FOR_A_CHANGE) {
+            return self.moved;
+        }
+        self.moved.saturating_add(self.moved_by(number))
+    }
+
+    /// Replaces the body of the document with this number, for which there is room. Where `fill` follows, and too much has moved, as
+    /// `take_out` says, all documents wait.
     pub(crate) fn replace(&mut self, number: u32, change: &Change, held: Held)
         requires store { (last : ℕ) × IsStore last self.old }
         requires room { IsReadyFor self.old number held change.now }
@@ -237,6 +251,12 @@ impl Store {
         ensures documents { stored self.new ≡ map (with_body_at number held) (stored self.old) }
         ensures store { (last : ℕ) → IsStore last self.old → IsStore last self.new }
     {
+        self.moved = self.moved_with(number, change, held.body().as_bytes().len());
+        if self.moved / DOCUMENTS_MOVED > self.count {
+            self.start_over();
+            self.replace_later(number, held);
+            return;
+        }
         self.sets.replace(number, change);
         self.held_bytes += held.body().as_bytes().len() as u64;
         if let Some(old) = exchange(&mut self.slots, number, held) {

@@ -34,7 +34,7 @@ overflow_sub-self c =
     (c.in-Some.ensures.held ∙ ap (λ slots. option_map (λ d. d.1) (document_at c.args.number (documents_in slots))) c.deref_mut.ensures.value) in
     let bytes = body_bytes-replaced c.args.number (stored old) at.0 c.in-Some.old c.args.held
     (Numbered-stored c.requires.store.0 old.slots.items kept.slots) at.1 in
-    let new_size : length c.as_bytes.result.now ≡ length c.args.held = ap length (c.as_bytes.ensures.bytes ∙ c.body.ensures) in
+    let new_size : length c.as_bytes-2.result.now ≡ length c.args.held = ap length (c.as_bytes-2.ensures.bytes ∙ c.body-2.ensures) in
     let old_size : length c.as_bytes-in-Some.result.now ≡ length c.in-Some.old =
     ap length (c.as_bytes-in-Some.ensures.bytes ∙ c.body-in-Some.ensures) in
     omega (arith, bytes, new_size, old_size, kept.bytes)
@@ -47,7 +47,7 @@ returns-in-Some-clause-store c = λ last kept.
     (c.in-Some.ensures.held ∙ ap (λ slots. option_map (λ d. d.1) (document_at c.args.number (documents_in slots))) c.deref_mut.ensures.value) in
     let bytes = body_bytes-replaced c.args.number (stored old) at.0 c.in-Some.old c.args.held
     (Numbered-stored last old.slots.items kept.slots) at.1 in
-    let new_size : length c.as_bytes.result.now ≡ length c.args.held = ap length (c.as_bytes.ensures.bytes ∙ c.body.ensures) in
+    let new_size : length c.as_bytes-2.result.now ≡ length c.args.held = ap length (c.as_bytes-2.ensures.bytes ∙ c.body-2.ensures) in
     let old_size : length c.as_bytes-in-Some.result.now ≡ length c.in-Some.old =
     ap length (c.as_bytes-in-Some.ensures.bytes ∙ c.body-in-Some.ensures) in
     let documents : documents_in items ≡ map (with_body_at c.args.number c.args.held) (stored old) =
@@ -78,3 +78,17 @@ returns-in_default-clause-store c = λ last kept.
     (sym c.in_default.is ∙ (c.exchange.ensures.held
     ∙ ap (λ slots. option_map (λ d. d.1) (document_at c.args.number (documents_in slots))) c.deref_mut.ensures.value))
     c.requires.room.there)
+
+pub replace_later-requires-clause-store : goal.replace_later-requires-clause-store
+replace_later-requires-clause-store c =
+    let kept = c.requires.store.1 in (
+      c.requires.store.0,
+      c.start_over.ensures.store c.requires.store.0
+          (record { slots = kept.slots; few = kept.few; sets = kept.sets; counted = kept.counted; bytes = kept.bytes }),
+    )
+
+pub returns-then-self-clause-store : goal.returns-then-self-clause-store
+returns-then-self-clause-store c = λ last kept.
+    c.replace_later.ensures.store last
+    (c.start_over.ensures.store last
+    (record { slots = kept.slots; few = kept.few; sets = kept.sets; counted = kept.counted; bytes = kept.bytes }))
