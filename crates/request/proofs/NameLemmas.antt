@@ -76,7 +76,3 @@ clash_if_excluded left right h = go (is_same left right && not (is_repeatable le
     go : (s e : Bool) → e ≡ true → (s || e) ≡ true
     go true e p = refl
     go false e p = p
-
--- how often an option is there depends only on its word
-pub same_count : (left right : OptionName) → is_same left right ≡ true → (name : OptionName) → is_same name right ≡ is_same name left
-same_count left right same name = ap (λ n. is_same name n) (sym (same_name left right same))

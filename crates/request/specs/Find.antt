@@ -29,7 +29,7 @@ pub record Options : Type 0 where
   pub limit : Option ℕ
   pub view : View
   pub zero : Bool
-  -- in which queue the search waits: no answer depends on it
+  -- in which lane the search waits: no answer depends on it
   pub lane : Option (List ℕ)
 
 -- whether one of the settings is of this option

@@ -38,7 +38,7 @@ pub enum OptionName {
     Spans,
     /// `-Z`: a zero byte comes after each name.
     Zero,
-    /// `--lane WORD`: in which queue the search waits for a reader.
+    /// `--lane WORD`: in which lane the search waits for a reader.
     Lane,
 }
 

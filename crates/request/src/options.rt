@@ -64,7 +64,7 @@ pub struct FindOptions<'t> {
     pub view: View,
     /// Whether a zero byte comes after each name.
     pub zero: bool,
-    /// The queue in which the search waits for a reader, if one is named: 1 to 64 bytes. It changes no answer.
+    /// The lane in which the search waits for a reader, if one is named: 1 to 64 bytes. It changes no answer.
     pub lane: Option<&'t [u8]>,
 }
 

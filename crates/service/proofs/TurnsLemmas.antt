@@ -10,7 +10,7 @@ use Rattle.std.proofs.lemmas.Option.{slice_get-get_or}
 use Rattle.steps.specs.Steps.{Given, AreTurned, given}
 use Rattle.steps.specs.StepRows.{AllTurned}
 use Rattle.steps.proofs.OpenLemmas.{around}
-use Rattle.steps.proofs.TurnLemmas.{each_insert, each_within, each_without, each_both, each_map, turned_both, turned_insert, turned_out}
+use Rattle.steps.proofs.TurnLemmas.{each_insert, each_within, each_without, each_map, turned_both, turned_insert, turned_out}
 use Rattle.service.specs.declared.turns.Aside.{Aside}
 use Rattle.service.specs.declared.turns.Last.{Last}
 use Rattle.service.specs.Service.{ServiceState, SetsAside}
@@ -211,12 +211,6 @@ module _ (turns : TurnsState) (place : ℕ) (within : place < length turns.aside
 
   pub removed_gives : GivesTurn turns (given_aside found) (record turns { aside = aside' })
   removed_gives = subst (λ l. GivesTurn turns (given_aside found) (record turns { aside = l })) (sym left) (aside_gives turns place found its)
-
-pub gives_later : (turns turns' turns'' : TurnsState) (x : Given) → StillHave turns turns' → GivesTurn turns' x turns'' → GivesTurn turns x turns''
-gives_later turns turns' turns'' x still gives readers answers have = gives readers answers (still readers answers have)
-
-pub still_later : (turns turns' turns'' : TurnsState) → StillHave turns turns' → StillHave turns' turns'' → StillHave turns turns''
-still_later turns turns' turns'' first next readers answers have = next readers answers (first readers answers have)
 
 -- the reader's next turn, in which it answers, after turns were given back
 pub next_given : (start turns turns' : TurnsState) (reader turn version : ℕ) → StillHave start turns → IsNext turns.lasts reader version turn

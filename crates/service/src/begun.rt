@@ -1,6 +1,6 @@
-//! Searches that are stopped after they were taken.
+//! What readers take for searches.
 
-/// A search that was stopped after its reader had taken what it needs.
+/// A search for which a reader has taken what it needs.
 #[derive(Clone, Copy, Debug, PartialEq, Eq)]
 pub struct Begun {
     /// The number of the search, from 1.

@@ -73,6 +73,11 @@ impl<J: Naming, T: Drop> Lane<J, T> {
     fn is_empty(&self) -> bool {
         self.new.is_empty() && self.stopped.is_empty()
     }
+
+    /// Whether none of its searches waits or is begun.
+    fn is_unused(&self) -> bool {
+        self.begun == 0 && self.is_empty()
+    }
 }
 
 /// The lanes with searches that wait or are begun. The one that has waited longest for its turn is the first.
@@ -136,9 +141,13 @@ impl<J: Naming, T: Drop> Lanes<J, T> {
         let Some(lane) = self.lane(alloc, name) else {
             return Some(task);
         };
+        let number = lane.number;
         match lane.new.push_back(task) {
             Ok(()) => None,
-            Err(refused) => Some(refused.value),
+            Err(refused) => {
+                self.give_up(number);
+                Some(refused.value)
+            }
         }
     }
 
@@ -154,16 +163,24 @@ impl<J: Naming, T: Drop> Lanes<J, T> {
     }
 
     /// A search of this lane is done.
-    pub(crate) fn end(&mut self, lane: u64) {
-        let Some(place) = self.place_of(lane) else {
+    pub(crate) fn end(&mut self, number: u64) {
+        let Some(place) = self.place_of(number) else {
             return;
         };
         if place < self.lanes.len() {
             let lane = &mut self.lanes[place];
             lane.begun = lane.begun.saturating_sub(1);
-            if lane.begun == 0 && lane.is_empty() {
-                let _ = self.lanes.remove(place);
-            }
+            self.give_up(number);
+        }
+    }
+
+    /// Gives up the lane of this number, if none of its searches waits or is begun.
+    fn give_up(&mut self, number: u64) {
+        let Some(place) = self.place_of(number) else {
+            return;
+        };
+        if place < self.lanes.len() && self.lanes[place].is_unused() {
+            let _ = self.lanes.remove(place);
         }
     }
 

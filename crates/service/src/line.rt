@@ -1,7 +1,5 @@
 //! Which search works next.
 
-ghost use Rattle.std.specs.Prelude.{◌≡◌};
-
 use crate::begun::Begun;
 use crate::lanes::{Lanes, Next};
 use crate::naming::Naming;
@@ -56,7 +54,7 @@ struct State<J: Naming, T> {
     waiting: usize,
     /// The posts of the threads that have no search. There is room for all.
     idle: Vec<Arc<Post<J, T>, Global>>,
-    /// Searches that were stopped, for the service.
+    /// What was taken for searches, for the service.
     begun: VecDeque<Begun>,
     /// How many threads there are.
     threads: usize,
@@ -163,9 +161,7 @@ impl<J: Naming, T: Drop> State<J, T> {
 
 impl<J: Naming, T: Drop> Line<J, T> {
     /// A line with these readers, in which no search waits, and no thread is.
-    pub fn new(alloc: Global, readers: Vec<Reader<J>>, stops: Stops) -> Line<J, T>
-        ensures { result.stops ≡ stops }
-    {
+    pub fn new(alloc: Global, readers: Vec<Reader<J>>, stops: Stops) -> Line<J, T> {
         let lanes = Lanes::new(alloc, readers.len());
         let spare = readers.len().saturating_add(1);
         let state = State {
@@ -334,7 +330,16 @@ impl<J: Naming, T: Drop> Line<J, T> {
         None
     }
 
-    /// A search that was stopped, of which the service has not taken note yet: the one that was stopped first.
+    /// The service is to take note of what was taken for this search, unless there is no memory for that. Where no search is
+    /// stopped it need not.
+    pub(crate) fn note<R: Wait>(&self, rt: &R, begun: Begun) {
+        if self.stops != Stops::Never {
+            let _ = self.state.lock(rt).begun.push_back(begun);
+        }
+    }
+
+    /// What was taken for a search that was stopped or that is done, if the service has not taken note of it yet. Of those that
+    /// one reader took, the first one comes first.
     pub fn take_begun<R: Wait>(&self, rt: &R) -> Option<Begun> {
         self.state.lock(rt).begun.pop_front()
     }

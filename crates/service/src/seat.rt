@@ -22,7 +22,7 @@ use views::Shown;
 /// For how many milliseconds a search works before it lets others work.
 const TURN: u64 = 10;
 
-/// For how many milliseconds it works before it lets one begin that nobody has begun.
+/// For how many milliseconds it works before it lets others work, where one waits that nobody has begun.
 const TURN_FOR_NEW: u64 = 1;
 
 /// The reader of a search, and until when it has it.
@@ -160,13 +160,14 @@ impl<'a, J: Naming, T: Drop> Seat<'a, J, T> {
         self.held.lock(rt).worked_until_now(rt)
     }
 
-    /// Ends.
-    pub(crate) fn leave(self) -> Left<J> {
+    /// Ends. What was taken last comes too, unless the service can take note of that already.
+    pub(crate) fn leave(self) -> (Left<J>, Option<Begun>) {
         let held = self.held.into_inner();
-        Left {
+        let left = Left {
             reader: held.reader,
             lane: held.lane,
-        }
+        };
+        (left, held.begun)
     }
 }
 

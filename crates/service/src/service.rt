@@ -373,8 +373,9 @@ impl<J: Naming> Service<J> {
         Some(self.answer_at(rt, alloc, place, &task.request))
     }
 
-    /// Takes note of a search that was stopped after its reader had taken what it needs: the reader's next turn is set aside for
-    /// it, so that it can be answered after searches that are taken later.
+    /// Takes note of a search for which a reader has taken what it needs: the reader's next turn is set aside for it, so that it can
+    /// be answered after searches that are taken later. Of what one reader takes, note is to be taken in that order, and before the
+    /// search is answered.
     pub fn set_aside(&mut self, begun: &Begun)
         ensures { SetsAside self.old self.new }
     {
@@ -557,8 +558,8 @@ impl<J: Naming> Service<J> {
         }
     }
 
-    /// Brings the copy of the index that is not searched further up to date, ahead of the next publish, by a piece of
-    /// `PIECE` bytes of bodies or one command. Returns whether more is left. It is for a time when no event is ready: one that
+    /// Brings the copy of the index that is not searched further up to date, ahead of the next publish, by a piece: commands that
+    /// come to some `PIECE` bytes of bodies, or a part of one. Returns whether more is left. It is for a time when no event is ready: one that
     /// comes meanwhile waits for this piece alone.
     ///
     /// The first piece after a publish waits for searches that are taking their candidates from that copy.

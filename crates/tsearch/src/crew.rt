@@ -107,7 +107,7 @@ impl<J: service::Naming + Send + Sync, K: input::Naming + Send + Sync, I: BufRea
     I,
 > {
     /// Starts the readers of a run, each in a thread of its own, which ends after the crew is dropped. The calling thread
-    /// reads. Where there is no memory for the readers, or a thread cannot be started, there are fewer of them, or none.
+    /// reads. Where there is no memory for the threads, or one cannot be started, there are fewer of them, or none.
     pub(crate) fn in_scope<'s, 'a: 's, E, R: Threads + Wait + Clock + Sync, G: Gate>(
         scope: &Scope<'s, E>,
         lent: &Lent<'a, J, K, R, G>,
@@ -227,10 +227,10 @@ impl<
     K: input::Naming + Send + Sync + 'static,
     I: BufRead + Drop + Send + 'static,
 > Crew<J, K, I> {
-    /// Starts a thread for each reader of a session, and one that reads the input. Where there is no memory for that, or a
-    /// thread cannot be started, there are fewer readers, or none and no thread that reads. The threads are not waited for.
-    /// A reader ends once no search can come any more, and the thread that reads once it has sent the end, or nobody takes
-    /// what it sends.
+    /// Starts a thread for each reader of a session, one that reads the input, and one that starts more as searches are stopped.
+    /// Where there is no memory for that, or a thread cannot be started, there are fewer, or none at all. The threads are not waited
+    /// for. Those that search and the one that starts them end once no search can come any more, and the one that reads once it has
+    /// sent the end, or nobody takes what it sends.
     pub(crate) fn start<
         R: Threads + Wait + Clock + Sync + Send + Copy + 'static,
         G: Gate + Copy + Send + 'static,
@@ -503,7 +503,7 @@ impl<J: service::Naming, K: input::Naming, I: BufRead + Drop> Crew<J, K, I> {
         }
     }
 
-    /// A search that was stopped, of which the service is to take note before it takes an answer.
+    /// What was taken for a search, of which the service is to take note before it takes an answer.
     pub(crate) fn take_begun<R: Wait>(&self, rt: &R) -> Option<Begun> {
         match &self.workers {
             Some(workers) => workers.line.take_begun(rt),

@@ -188,7 +188,7 @@ fn take_event<
     }
 }
 
-/// Has the service take note of the searches that were stopped.
+/// Has the service take note of what was taken for searches.
 fn note_begun<J: service::Naming, K: input::Naming, R: Wait, I: BufRead + Drop>(
     plan: &Plan<'_, R>,
     service: &mut Service<J>,

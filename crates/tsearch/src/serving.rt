@@ -44,8 +44,8 @@ pub struct LiveOptions {
 /// for a run.
 ///
 /// The calling thread carries out the items and writes. With readers, a thread reads the input, and others answer searches, as
-/// many at once as there are readers: a search holds up neither the items after it nor, for longer than its turn, other
-/// searches. Its answer is written when it comes. A sync, and what follows it, waits until no search is open.
+/// many at once as there are readers: a search does not hold up the items after it, and other searches in turn with it. Its answer
+/// is written when it comes. A sync, and what follows it, waits until no search is open.
 /// Without readers, or if no thread can be started, the calling thread reads, and answers each search at once. A reader
 /// calls the gate at each point of a search.
 ///
