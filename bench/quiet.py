@@ -7,6 +7,7 @@ three times in all. Once a script has spent 90 seconds on waiting and on such me
 again.
 """
 import statistics
+import re
 import time
 
 ALLOWED = 1.2
@@ -101,4 +102,5 @@ def told():
     text = "the machine: a million additions in Python in %.0f ms at least and %.0f by the median, memory copied with %.1f GB/s at most" % times
     if not _busy:
         return text + "; it was quiet before and after each measurement"
-    return text + "; it was busy at " + ", ".join(_busy)
+    # Without the folders that were made for this run.
+    return text + "; it was busy at " + ", ".join(re.sub(r" /\S+/files\b", "", what) for what in _busy)

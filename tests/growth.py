@@ -1048,8 +1048,8 @@ def clocks_are_looked_at_seldom(runs):
 
 
 def answers_of_readers_stand(runs):
-    """The thread that takes the items makes no answer again that a reader has made, also if there is one reader, and if over 1,024 versions
-    were published since a search was asked that is still open."""
+    """The thread that takes the items makes no answer again that a reader has made, also if there is one reader, if over 1,024 versions were
+    published since a search was asked that is still open, and if a search was stopped for later ones that were answered at later versions."""
     body = put(b"a", b"some text\n" * 100_000)
     search = b"searchin ^a$ e.*z\n"
     for way in SCRIPT_OF_ONE, SESSION_OF_ONE_READER:
@@ -1059,6 +1059,9 @@ def answers_of_readers_stand(runs):
     slow += (put(b"b", b"x") + b"publish\n") * 1_100
     none, asked = (first_thread(runs, SESSION_BESIDE, slow + search * count + b"cancel 1\n") for count in (0, 20))
     yield "instructions of the first thread for 20 searches of 1 MB beside 1,100 publishes", asked - none, -none, 20 * 200_000
+    later = (put(b"b", b"x") + b"publish\nsearchin ^b$ x\n") * 5
+    none, asked = (first_thread(runs, SESSION_OF_ONE_READER, body + b"publish\n" + (search * count + later) * 20) for count in (0, 1))
+    yield "instructions of the first thread for 20 searches of 1 MB that are stopped for later ones", asked - none, -none, 20 * 200_000
 
 
 def first_thread(runs, way, script):
