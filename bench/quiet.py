@@ -6,8 +6,8 @@ takes over a fifth longer, the machine is busy: then the measurement waits, for 
 three times in all. Once a script has spent 90 seconds on waiting and on such measurements, it waits no more, and makes none
 again.
 """
-import statistics
 import re
+import statistics
 import time
 
 ALLOWED = 1.2
