@@ -3,6 +3,7 @@
 import asyncio
 import contextlib
 import importlib.util
+import itertools
 import json
 import logging
 import os
@@ -88,6 +89,42 @@ class Clusters(unittest.IsolatedAsyncioTestCase):
                 await cluster.put("", "x")
             self.assertEqual(cluster.heals, 0)
 
+    async def test_names_under_a_prefix(self) -> None:
+        """They go from all shards at one publish, as from one session, and it is refused if no shard has any."""
+        cluster, session = self.cluster, self.enterContext(tsearch.Session())
+        names = [b"%s/%d" % (folder, number) for folder in (b"a", b"a b", b"%41", b"\xff") for number in range(12)] + [b"a/only"]
+        async with asyncio.timeout(SECONDS):
+            for name in names:
+                await cluster.put(name, name)
+                session.put(name, name)
+            await cluster.publish()
+            session.publish()
+            for prefixes in [b"a/only"], [b"a/"], [b"a/", b"none/"], [b"\xff", b"\xff"], [b"%", b"%41/", b"a"], [b"a"]:
+                await cluster.put(b"new/" + prefixes[0], b"new")
+                session.put(b"new/" + prefixes[0], b"new")
+                for prefix in prefixes:
+                    await cluster.remove_under(prefix)
+                    session.remove_under(prefix)
+                before = await cluster.find("", names_only=True)
+                published, wanted = await cluster.publish(), session.publish()
+                for field in "documents", "bytes", "accepted":
+                    self.assertEqual(getattr(published, field), getattr(wanted, field), (prefixes, field))
+                refused = [[(one.name, one.reason) for one in told.refused] for told in (published, wanted)]
+                self.assertEqual(sorted(refused[0]), sorted(refused[1]), prefixes)
+                after = await cluster.find("", names_only=True)
+                self.assertEqual((after.names(), after.version), (session.find("", names_only=True).names(), before.version + 1))
+            self.assertEqual({name.split(b"/")[0] for name in after.names()}, {b"new"})
+            for prefix in b"", b"x" * 5_000:
+                with self.assertRaises(tsearch.ChangeRefused):
+                    await cluster.remove_under(prefix)
+            # why one shard keeps what it has is told, whatever the others say
+            from tsearch.cluster import _Under
+
+            for reasons in itertools.permutations(["no such file", "full", None]):
+                under = _Under(b"a", 3)
+                told = [under.told(reason and tsearch.ChangeRefused(reason, b"a")) for reason in reasons]
+                self.assertEqual([one and one.reason for one in told], [None, None, "full"])
+
     async def test_the_example_of_the_page(self) -> None:
         text = (PACKAGE / "README.md").read_text(encoding="utf-8")
         code, wanted = re.search(r"^```py\n(.*?)^```\n\n```output\n(.*?)^```", text, re.MULTILINE | re.DOTALL).groups()
@@ -145,6 +182,9 @@ class Clusters(unittest.IsolatedAsyncioTestCase):
                 # one change is refused, and leaves the older text
                 for name, body in zip(own, ["y", "y\0", "y"]):
                     await cluster.put(name, body)
+                await cluster.put("old/x", "x")
+                await cluster.remove_under("old/")
+                await cluster.remove_under("old/")
                 with self.assertRaises(ShardLost):
                     await cluster.publish()
                 await cluster.put(own[2], "z")
@@ -153,7 +193,12 @@ class Clusters(unittest.IsolatedAsyncioTestCase):
                         answer = await cluster.find("[xyz]")
                         break
                 self.assertEqual([(hit.text, answer.version) for hit in answer], [(b"y", 2), (b"x", 2), (b"y", 2)])
-                self.assertEqual((await cluster.publish()).documents, 3)
+                published = await cluster.publish()
+                self.assertEqual((published.documents, published.accepted), (3, 3 + 2 + 2 + 1))
+                # the next publish tells what that one has not
+                refused = [(one.name, one.reason) for one in published.refused]
+                self.assertEqual(sorted(refused), [(own[1].encode(), "byte 0 in body"), (b"old/", "no such file")])
+                self.assertEqual((await cluster.publish()).refused, ())
                 self.assertEqual([hit.text for hit in await cluster.find("")], [b"y", b"x", b"z"])
 
     async def test_a_search_that_nobody_waits_for_is_not_sent(self) -> None:
@@ -206,6 +251,10 @@ class Clusters(unittest.IsolatedAsyncioTestCase):
             searches = [asyncio.create_task(search(number)) for number in range(4)]
             for number in range(1, 25):
                 documents = dict(versions[number - 1])
+                if number % 3 == 0:
+                    prefix = source.choice([b"dir 0/", b"dir 1/f1", b"dir"])
+                    documents = {name: body for name, body in documents.items() if not name.startswith(prefix)}
+                    await cluster.remove_under(prefix)
                 for name in source.sample(sorted(model.documents), 15):
                     if name in documents and source.random() < 0.4:
                         del documents[name]

@@ -11,6 +11,7 @@ from __future__ import annotations
 
 import asyncio
 import contextlib
+import itertools
 import math
 import pickle
 import time
@@ -45,6 +46,8 @@ _PAUSE = 0.05
 # In bytes: a new actor is fed in calls of about so much, and who puts waits while more than this waits in a lane.
 _BATCH = 1 << 20
 _MOST_WAITING = 4 << 20
+# How a shard refuses to remove what it has not.
+_NOTHING = "no such file"
 
 
 class ShardLost(Error):
@@ -67,11 +70,39 @@ class _Put(NamedTuple):
     body: bytes | None
 
 
+class _Under:
+    """The documents under a prefix, to be removed. It is one change in all lanes, and each shard has its part of them."""
+
+    def __init__(self, prefix: bytes, shards: int) -> None:
+        self.prefix = prefix
+        # of how many shards it is not known what they say
+        self._left = shards
+        self._is_accepted = False
+        self._refusal: ChangeRefused | None = None
+
+    def __reduce__(self) -> tuple[type[_Under], tuple[bytes, int]]:
+        return _Under, (self.prefix, self._left)
+
+    def is_first(self) -> bool:
+        """Notes that a shard has accepted it. Whether it is the first one that does."""
+        was, self._is_accepted = self._is_accepted, True
+        return not was
+
+    def told(self, refusal: ChangeRefused | None) -> ChangeRefused | None:
+        """Notes what a shard says. What is to be told once all have: that there is no such document, if no shard has one; or why a shard
+        has not removed those that it has."""
+        if refusal and (self._refusal is None or self._refusal.reason == _NOTHING):
+            self._refusal = refusal
+        self._left -= 1
+        is_told = self._left == 0 and self._refusal and not (self._is_accepted and self._refusal.reason == _NOTHING)
+        return self._refusal if is_told else None
+
+
 class _Publish(NamedTuple):
     """A publish."""
 
 
-Item = _Put | _Publish | Query
+Item = _Put | _Under | _Publish | Query
 
 
 class Shard:
@@ -87,7 +118,7 @@ class Shard:
         self._changes: list[Change] = []
 
     def run(self, number: int, packed: bytes) -> bytes:
-        """Carries out items in their order: for each put None, for each search its answer or refusal, for each publish which of the
+        """Carries out items in their order: for each change None, for each search its answer or refusal, for each publish which of the
         changes before it were refused. A search does not see a publish behind it. Both lists are pickled, for which Dask would take a
         frame for each body."""
         return pickle.dumps(self._run(number, pickle.loads(packed)), pickle.HIGHEST_PROTOCOL)
@@ -101,6 +132,8 @@ class Shard:
         for at, item in enumerate(items):
             if isinstance(item, _Put):
                 self._changes.append(self._session.remove(item.name) if item.body is None else self._session.put(item.name, item.body))
+            elif isinstance(item, _Under):
+                self._changes.append(self._session.remove_under(item.prefix))
             elif isinstance(item, Query):
                 searches += self._begin(at, item, outcomes)
             else:
@@ -223,7 +256,9 @@ class _Lane:
         self._call_seconds = call_seconds
         self._options = options
         # the changes since the last publish that was carried out, and publishes that were not
-        self._pending: list[_Put | _Publish] = []
+        self._pending: list[_Put | _Under | _Publish] = []
+        # what was refused before a publish of which nobody was told
+        self._untold: list[ChangeRefused] = []
         self._waiting: asyncio.Queue[_Asked] = asyncio.Queue()
         self._waiting_bytes = 0
         self._room = asyncio.Event()
@@ -313,6 +348,8 @@ class _Lane:
             outcomes = [self._lost] * len(batch)
         for asked, outcome in zip(batch, outcomes):
             self._note(asked.item, outcome)
+            if isinstance(asked.item, _Publish) and not isinstance(outcome, ShardLost) and not asked.future.done():
+                outcome, self._untold = self._untold, []
             asked.settle(outcome)
 
     async def _send(self, items: list[Item]) -> list[Any]:
@@ -355,18 +392,28 @@ class _Lane:
             self._note(item, outcome)
 
     def _note(self, item: Item, outcome: Any) -> None:
-        """What the shard has after an item, or is to have once it is made again."""
-        if isinstance(item, _Put) or (isinstance(item, _Publish) and isinstance(outcome, ShardLost)):
+        """Notes what the shard has after an item, or is to have once it is made again."""
+        if isinstance(item, (_Put, _Under)) or (isinstance(item, _Publish) and isinstance(outcome, ShardLost)):
             self._pending.append(item)
         elif isinstance(item, _Publish):
-            refused = {at for at, _ in outcome}
-            for at, change in enumerate(self._pending):
-                if isinstance(change, _Put) and at not in refused:
-                    self.accepted += 1
-                    self.bytes += _size_of(change) - len(self.documents.pop(change.name, b""))
-                    if change.body is not None:
-                        self.documents[change.name] = change.body
+            refused = dict(outcome)
+            changes = [change for change in self._pending if not isinstance(change, _Publish)]
+            for at, change in enumerate(changes):
+                self._note_change(change, refused.get(at))
             self._pending.clear()
+
+    def _note_change(self, change: _Put | _Under, refusal: ChangeRefused | None) -> None:
+        """Notes what a change comes to that is published, or refused."""
+        if refusal is None:
+            is_put = isinstance(change, _Put)
+            gone = [change.name] if is_put else [name for name in self.documents if name.startswith(change.prefix)]
+            self.accepted += is_put or change.is_first()
+            self.bytes += _size_of(change) - sum(len(self.documents.pop(name, b"")) for name in gone)
+            if is_put and change.body is not None:
+                self.documents[change.name] = change.body
+        told = change.told(refusal) if isinstance(change, _Under) else refusal
+        if told:
+            self._untold.append(told)
 
 
 def _size_of(item: Item) -> int:
@@ -406,6 +453,8 @@ class Cluster:
     def __init__(self, client: Client, shards: int, *, call_seconds: float = TO_CALL, **options: Any) -> None:
         self._version = 0
         self._open = 0
+        # what was refused before a publish that has failed
+        self._untold: list[ChangeRefused] = []
         self.feeding = asyncio.Lock()
         self._lanes = [_Lane(number, client, call_seconds, options) for number in range(shards)]
 
@@ -432,6 +481,18 @@ class Cluster:
         """Removes a document. Refusals are told by the publish; `ChangeRefused` at once for a bad name."""
         await self._change(_Put(names.to_bytes(name), None))
 
+    async def remove_under(self, prefix: str | bytes) -> None:
+        """Removes each document whose name begins with the prefix, from all shards in one change, which the next publish shows. The publish
+        tells that it is refused if no shard has such a document; `ChangeRefused` at once for a prefix that cannot be a name, as the empty
+        one."""
+        under = _Under(names.to_bytes(prefix), len(self._lanes))
+        names.checked(under.prefix)
+        # all of them in one step, so that no publish comes between
+        for lane in self._lanes:
+            lane.send(under)
+        for lane in self._lanes:
+            await lane.wait_for_room()
+
     async def _change(self, change: _Put) -> None:
         names.checked(change.name)
         lane = self._lanes[zlib.crc32(change.name) % len(self._lanes)]
@@ -439,12 +500,18 @@ class Cluster:
         await lane.wait_for_room()
 
     async def publish(self) -> Published:
-        """Lets searches see all changes so far, and gives what is published then, with the changes that were refused. `ShardLost` if a
-        shard could not be made again, and `Ended` if the cluster is closed."""
+        """Lets searches see all changes so far, and gives what is published then, with the changes that were refused since the last publish
+        that has told its own. `ShardLost` if a shard could not be made again, and `Ended` if the cluster is closed."""
         self._version += 1
         version = self._version
-        outcomes = await _outcomes([lane.send(_Publish()) for lane in self._lanes])
-        refused = tuple(refusal for outcome in outcomes for _, refusal in outcome)
+        futures = [lane.send(_Publish()) for lane in self._lanes]
+        try:
+            outcomes = await _outcomes(futures)
+        except BaseException:
+            told = [future.result() for future in futures if future.done() and not future.cancelled()]
+            self._untold += [refusal for outcome in told if isinstance(outcome, list) for refusal in outcome]
+            raise
+        refused, self._untold = (*self._untold, *itertools.chain(*outcomes)), []
         return self._published(version, refused)
 
     async def status(self) -> Status:
