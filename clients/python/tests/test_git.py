@@ -43,6 +43,15 @@ class Revisions(unittest.TestCase):
         for pattern in "", "int", "e":
             self.assertEqual([hit[:3] for hit in self.session.find(pattern)], [row[:3] for row in found_in(documents, pattern)[2]])
 
+    def carry_out(self, step: tsearch.folder.Step) -> None:
+        """Sends a step of a look."""
+        if step.under:
+            self.session.remove_under(step.name)
+        elif step.body is None:
+            self.session.remove(step.name)
+        else:
+            self.session.put(step.name, step.body)
+
     def test_branches_that_move_come_and_go(self) -> None:
         made = self.made
         first = made.commit("main", FILES)
@@ -199,6 +208,53 @@ class Revisions(unittest.TestCase):
         self.assertEqual(revisions.refresh()[:2], (0, 10_000))
         self.expect(named(made, "main"))
 
+    def test_what_goes_together_is_one_change(self) -> None:
+        """A branch, a folder of which nothing stays, or all; others whose names begin in the same way stay."""
+        made = self.made
+        wide = {b"%s/%d.c" % (folder, number): b"int a;\n" for folder in (b"a", b"a/b", b"a/b/c", b"ab", b"d e%") for number in range(3)}
+        made.commit("main", {**FILES, **wide})
+        for branch in "main2", "m":
+            made.commit(branch, {}, start="main")
+        revisions = git.Revisions(self.session, made.path, ["main", "main2", "m*"])
+        accepted = lambda: self.session.status().accepted  # noqa: E731
+        revisions.refresh()
+        for changed, removed, count in (
+            ({b"a/b/c/0.c": None}, 1, 1),
+            ({b"a/b/c/1.c": None, b"a/b/c/2.c": None, b"README": None}, 3, 2),
+            ({b"a/b/0.c": None, b"a/b/1.c": None}, 2, 2),
+            ({**{b"a/%d.c" % number: None for number in range(3)}, b"a/b/2.c": None, b"a": b"int file;\n"}, 4, 2),
+            ({**{b"d e%%/%d.c" % number: None for number in range(3)}, b"ab/1.c": None, b"ab/3.c": b"int a;\n"}, 4, 3),
+        ):
+            made.commit("main", changed)
+            before = accepted()
+            self.assertEqual((revisions.refresh().removed, accepted() - before), (removed, count), changed)
+            self.expect(named(made, "main", "main2", "m"))
+        for branch, count in ("main", 1), ("m", 1):
+            made.git("branch", "-D", branch)
+            before = accepted()
+            self.assertEqual((revisions.refresh().removed, accepted() - before), (len(made.files[branch]), count))
+            self.assertEqual(revisions._objects.totals[0], self.session.status().documents)
+        self.expect(named(made, "main2"))
+        # all of it is another's
+        made.commit("main2", {b"only": b"int only;\n"}, start=None)
+        before = accepted()
+        self.assertEqual((revisions.refresh()[:2], accepted() - before), ((1, len(FILES) + len(wide)), 2))
+        self.expect(named(made, "main2"))
+
+    def test_a_prefix_under_which_there_is_nothing(self) -> None:
+        """Its removal is refused, which is no fault: here another one has removed the documents."""
+        made = self.made
+        made.commit("main", FILES)
+        made.commit("gone", FILES)
+        revisions = git.Revisions(self.session, made.path, ["main", "gone"])
+        revisions.refresh()
+        self.session.remove_under("gone:")
+        self.session.publish()
+        made.git("branch", "-D", "gone")
+        refreshed = revisions.refresh()
+        self.assertEqual((refreshed.left_out, revisions.left_out, revisions.commits), ([], {}, {"main": made.git("rev-parse", "main")}))
+        self.expect(named(made, "main"))
+
     def test_other_forms_of_a_repository(self) -> None:
         """A working tree, another one of the same repository, and hashes of the other kind. What is not committed does not count."""
         tree = Made(self.top / "tree", is_bare=False)
@@ -263,10 +319,8 @@ class Revisions(unittest.TestCase):
         for count in range(1, 9):
             steps = objects.steps()
             for step in [next(steps, None) for _ in range(count)]:
-                if step and step.body is None:
-                    self.session.remove(step.name)
-                elif step:
-                    self.session.put(step.name, step.body)
+                if step:
+                    self.carry_out(step)
             steps.close()
         kept.refresh()
         self.session.publish()
@@ -276,7 +330,7 @@ class Revisions(unittest.TestCase):
         made.commit("main", {b"src/main.c": b"int again;\n", b"new": None})
         steps = objects.steps()
         for step in steps:
-            self.session.remove(step.name) if step.body is None else self.session.put(step.name, step.body)
+            self.carry_out(step)
             if step.done == 1:
                 break
         steps.close()

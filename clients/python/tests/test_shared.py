@@ -276,7 +276,10 @@ class Changes(Host):
         file.write_text('[[repository]]\npath = "other.git"\nname = "one"\n')
         os.kill(server.pid, signal.SIGHUP)
         until(lambda: server.hits("int") == [("one", "a.c", 1, "int other;")])
-        until(lambda: self.metric(server, "tsearch_accepted") == accepted + 1 + 4)
+        # all of it in one change
+        until(lambda: self.metric(server, "tsearch_accepted") == accepted + 1 + 1)
+        until(lambda: json.loads(server.get("/api/status")[1])["version"] == accepted + 1 + 1)
+        self.assertEqual(server.hits("int"), [("one", "a.c", 1, "int other;")])
 
     def test_more_reviews_at_once_than_are_kept(self) -> None:
         """None ends while a search is in it, and only the last ones stay in the session."""
@@ -293,9 +296,9 @@ class Changes(Host):
 
         with concurrent.futures.ThreadPoolExecutor(12) as pool:
             list(pool.map(review, range(60)))
-        # two puts for each, and two removes but for the four that are kept
-        until(lambda: (self.metric(server, "tsearch_accepted") - accepted) % 4 == 0)
-        self.assertGreater(self.metric(server, "tsearch_accepted"), accepted + 4 * 52)
+        # two puts for each, and one change that removes them but for the four that are kept
+        until(lambda: (self.metric(server, "tsearch_accepted") - accepted + 4) % 3 == 0)
+        self.assertGreater(self.metric(server, "tsearch_accepted"), accepted + 3 * 52)
 
     def test_one_that_cannot_be_read(self) -> None:
         """It is named with the reason, and is not asked for again and again; the other answers."""

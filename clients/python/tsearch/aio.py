@@ -14,7 +14,7 @@ from typing import TYPE_CHECKING, Any, Unpack
 from .answers import Answer, Published, Status, joined
 from .core import Core, Sent, SentSearch, ended_by, ended_with, status_of, value_of
 from .errors import Ended, Error
-from .folder import BATCH, Files, Progress, Refreshed, Source, Step
+from .folder import BATCH, MOST_TOGETHER, Files, Progress, Refreshed, Source, Step
 from .git import Objects, Store
 from .names import to_bytes
 from .paths import check
@@ -491,7 +491,7 @@ async def _published(connection: _Connection) -> Published:
 class Kept:
     """Keeps what a source has in a session or a cluster, as `tsearch.folder.Kept` does. A thread reads the source.
 
-    before_change: is awaited with the name of each document that is there and is about to be replaced or removed.
+    before_change: is awaited with the name of each document that is there and is about to be replaced or removed by itself.
     published: is called with each publish, at once.
     """
 
@@ -575,14 +575,27 @@ class Kept:
         finally:
             self.settled.set()
 
-    async def drop(self) -> None:
-        """Removes all documents of the source from the session. There is nothing to be done with it then."""
-        async with self._lock, self._session.feeding:
-            if self._session.life == self._life:
-                for name in self._source.documents():
-                    await self._session.remove(name)
-                await self._session.publish()
+    async def drop(self, under: bytes = b"") -> None:
+        """Removes all documents of the source from the session, a few with each publish: one that removed all of them would hold up
+        searches. There is nothing to be done with the source then.
+
+        under: what their names begin with, and no others: then whatever is left there goes, too.
+        """
+        async with self._lock:
+            steps = self._source.removals()
+            while self._life == self._session.life and (few := await asyncio.to_thread(_few, steps)):
+                await self._remove_some(few)
+            if under and self._life == self._session.life:
+                await self._remove_some([Step(under, None, 0, 1, under=1)])
             self._source.forget()
+            self._unsent.clear()
+
+    async def _remove_some(self, steps: list[Step]) -> None:
+        async with self._session.feeding:
+            changes = _changes_of(self._session)
+            for step in steps:
+                await _remove(changes, step)
+            await self._session.publish()
 
     async def restart(self) -> Published | None:
         """Starts the program again if it has ended, and sends all documents. For a session with this source alone. None if the program
@@ -622,7 +635,8 @@ class Kept:
         put = removed = 0
         loaded: Awaitable[object] | None = None
         while self._unsent or await self._has_more(steps):
-            name, body, done, of, path = self._unsent[0]
+            step = self._unsent[0]
+            name, body, done, of, path, under = step
             self._is_pending = True
             if done % BATCH == 0 and loaded:
                 # while the program has the next ones
@@ -631,7 +645,7 @@ class Kept:
                 loaded = await changes.mark()
             elif not loaded:
                 self._progress(done, of)
-            if before_change and not self._source.is_new(name):
+            if before_change and not under and not self._source.is_new(name):
                 await before_change(name)
             if path is not None:
                 assert isinstance(changes, Changes)
@@ -639,8 +653,8 @@ class Kept:
                 await changes.load(name, path)
                 put += 1
             elif body is None:
-                await changes.remove(name)
-                removed += 1
+                await _remove(changes, step)
+                removed += under or 1
             else:
                 await changes.put(name, body)
                 put += 1
@@ -704,10 +718,11 @@ class Folder(Kept):
 class Review:
     """The files of a patch in a session or a cluster, as `tsearch.review.Review` has them."""
 
-    def __init__(self, session: Session | Cluster, patch: Patch, prefix: bytes) -> None:
+    def __init__(self, session: Session | Cluster, patch: Patch, prefix: bytes | None) -> None:
         self.patch = patch
         self._session = session
-        self._prefix = prefix
+        self._prefix = prefix_of_its_own() if prefix is None else prefix
+        self._has_own = prefix is None
         self._held: set[bytes] = set()
         # the last publish of its documents
         self.published: Published | None = None
@@ -726,7 +741,7 @@ class Review:
     ) -> Review:
         """Puts the files of a patch, and returns once they are found. The arguments are those of `tsearch.review.Review`."""
         patch = await asyncio.to_thread(lambda: Patch(Store(path), before, after, whole))
-        review = cls(session, patch, prefix_of_its_own() if prefix is None else to_bytes(prefix))
+        review = cls(session, patch, None if prefix is None else to_bytes(prefix))
         try:
             await review._fill()
         except BaseException:
@@ -772,7 +787,9 @@ class Review:
         self._is_closed = True
         async with self._session.feeding:
             held, self._held = self._held, set()
-            for name in held:
+            if held and self._has_own:
+                await self._session.remove_under(self._prefix)
+            for name in () if self._has_own else held:
                 await self._session.remove(self._prefix + name)
             if held:
                 await self._session.publish()
@@ -809,6 +826,19 @@ class Revisions(Kept):
 def _changes_of(session: Session | Cluster) -> Changes | Cluster:
     """What changes the documents of the program that runs now, and of none that is started after it."""
     return Changes(session._connection) if isinstance(session, Session) else session
+
+
+async def _remove(changes: Changes | Cluster, step: Step) -> None:
+    """Sends a step that removes a document, or all under a prefix."""
+    await (changes.remove_under(step.name) if step.under else changes.remove(step.name))
+
+
+def _few(steps: Iterator[Step]) -> list[Step]:
+    """The next steps, for some `MOST_TOGETHER` documents."""
+    few: list[Step] = []
+    while sum(step.under or 1 for step in few) < MOST_TOGETHER and (step := next(steps, None)):
+        few.append(step)
+    return few
 
 
 def _take_some(steps: Iterator[Step], unsent: collections.deque[Step]) -> None:

@@ -32,17 +32,21 @@ _SMALL = 1 << 20
 _LEAST_LOADED = 256
 # So many files are sent, and then so many more before it is known that the program has read the first ones.
 BATCH = 256
+# So many documents are removed by one change, or by one publish where they may go a few at a time: searches wait for it.
+MOST_TOGETHER = 64
 
 
 class Step(NamedTuple):
-    """A document to put, or to remove if there is no body; how many such steps have come before, and how many there are at most. With a
-    path the program is to load the document from there."""
+    """A document to put, or to remove if there is no body; for how many documents steps have come before, and for how many at most. With a
+    path the program is to load the document from there. With `under` so many documents are to be removed at once, which are all those whose
+    names begin with this one."""
 
     name: bytes
     body: bytes | None
     done: int
     of: int
     path: bytes | None = None
+    under: int = 0
 
 
 class LeftOut(NamedTuple):
@@ -75,8 +79,8 @@ class Source(Protocol):
     def totals(self) -> tuple[int, int]:
         """How many documents there are, and the bytes of their files."""
 
-    def documents(self) -> list[bytes]:
-        """The names of all documents."""
+    def removals(self) -> Iterator[Step]:
+        """What removes all documents, at most `MOST_TOGETHER` of them at once."""
 
     def forget(self) -> None:
         """A new program has nothing of it."""
@@ -142,9 +146,12 @@ class Files:
         """How many documents there are, and the bytes of their files."""
         return len(self.held), self._bytes
 
-    def documents(self) -> list[bytes]:
-        """The names of all documents."""
-        return [self.prefix + name for name in self.held]
+    def removals(self) -> Iterator[Step]:
+        """What removes all documents, one by one: others may have names that begin as theirs do."""
+        held = list(self.held)
+        for at, name in enumerate(held):
+            yield Step(self.prefix + name, None, at, len(held))
+            self._drop(name)
 
     def steps(self) -> Iterator[Step]:
         """Looks through the folder, and gives what makes the session's documents those of the folder, to be sent in this order."""
@@ -456,7 +463,7 @@ class Kept:
     def _send(self, changes: Changes) -> tuple[int, int]:
         put = removed = 0
         loaded: Callable[[], object] | None = None
-        for name, body, done, of, path in self._source.steps():
+        for name, body, done, of, path, under in self._source.steps():
             self._is_pending = True
             if done % BATCH == 0 and loaded:
                 # while the program has the next ones
@@ -469,6 +476,9 @@ class Kept:
                 loaded = loaded or changes.mark()
                 changes.load(name, path)
                 put += 1
+            elif under:
+                changes.remove_under(name)
+                removed += under
             elif body is None:
                 changes.remove(name)
                 removed += 1

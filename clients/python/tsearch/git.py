@@ -23,7 +23,7 @@ from typing import IO, NamedTuple
 
 from . import names
 from .errors import ChangeRefused, Error
-from .folder import TICK, Kept, LeftOut, Progress, Step, called, text_body
+from .folder import MOST_TOGETHER, TICK, Kept, LeftOut, Progress, Step, called, text_body
 from .program import MOST_BODY
 from .repository import git_folder
 from .session import Session
@@ -253,9 +253,9 @@ class Objects:
         """How many documents there are, and the bytes of their files."""
         return sum(map(len, list(self.held.values()))), self._bytes
 
-    def documents(self) -> list[bytes]:
-        """The names of all documents."""
-        return [self.prefix + self._start(revision) + path for revision, paths in self.held.items() for path in paths]
+    def removals(self) -> Iterator[Step]:
+        """What removes all documents, those of a folder or of a revision together."""
+        return self._removals({revision: list(paths) for revision, paths in self.held.items()}, self.totals[0])
 
     def steps(self) -> Iterator[Step]:
         """Looks at the revisions, and gives what makes the session's documents those of their commits now."""
@@ -264,13 +264,13 @@ class Objects:
             return
         now = self.store.commits(wanted)
         gone = [one for one in self.held if one not in now]
-        removed = [name for revision in gone for name in self._removed(revision)]
+        removed = {revision: self._removed(revision) for revision in gone}
         put: list[tuple[bytes, Entry]] = []
         for revision, commit in now.items():
             if self.commits.get(revision) != commit:
                 changed = self._changes(revision, commit)
                 start = self._start(revision)
-                removed += [start + path for path in changed if changed[path] is None and path in self.held[revision]]
+                removed[revision] = [path for path in changed if changed[path] is None and path in self.held[revision]]
                 self._pass_over(start, changed)
                 put += [(start + path, entry) for path, entry in changed.items() if entry is not None]
         # of a look that fails midway it is not known which documents were sent: the next one sends all of these revisions
@@ -288,11 +288,11 @@ class Objects:
         return names.to_bytes(revision) + b":"
 
     def _removed(self, revision: str) -> list[bytes]:
-        """The documents of a revision that goes. What the session can do at once for a prefix has its place here."""
+        """The paths of a revision that goes."""
         start = self._start(revision)
         for name in [one for one in self.left_out if one.startswith(start)]:
             del self.left_out[name]
-        return [start + path for path in self.held[revision]]
+        return list(self.held[revision])
 
     def _changes(self, revision: str, commit: str) -> Mapping[bytes, Entry | None]:
         """What a revision has at a commit otherwise than the session has it. A copy of the documents of another revision, from which this
@@ -312,12 +312,10 @@ class Objects:
         for path in changed:
             self.left_out.pop(start + path, None)
 
-    def _steps(self, removed: list[bytes], put: list[tuple[bytes, Entry]]) -> Iterator[Step]:
-        of, done = len(removed) + len(put), 0
-        for name in removed:
-            self._drop(name)
-            yield Step(self.prefix + name, None, done, of)
-            done += 1
+    def _steps(self, removed: dict[str, list[bytes]], put: list[tuple[bytes, Entry]]) -> Iterator[Step]:
+        done = sum(map(len, removed.values()))
+        of = done + len(put)
+        yield from self._removals(removed, of)
         by_object: dict[bytes, list[bytes]] = collections.defaultdict(list)
         for name, entry in put:
             if entry.kind not in FILE_KINDS:
@@ -330,6 +328,18 @@ class Objects:
             for name in by_object[number]:
                 yield from self._put(name, body, done, of)
                 done += 1
+
+    def _removals(self, removed: dict[str, list[bytes]], of: int) -> Iterator[Step]:
+        """The steps that remove some paths of revisions."""
+        done = 0
+        for revision, gone in removed.items():
+            start = self._start(revision)
+            for begin, paths in _gathered(gone, self.held[revision]):
+                yield Step(self.prefix + start + begin, None, done, of, under=0 if [begin] == paths else len(paths))
+                # only now: what a look that fails here has not removed the next one removes
+                for path in paths:
+                    self._drop(start + path)
+                done += len(paths)
 
     def _put(self, name: bytes, body: bytes | str, done: int, of: int) -> Iterator[Step]:
         """The step for a document; a text in place of its body is the reason why it can be none."""
@@ -349,18 +359,17 @@ class Objects:
         yield Step(self.prefix + name, body, done, of)
 
     def _without(self, name: bytes, reason: str, done: int, of: int) -> Iterator[Step]:
-        self._leave_out(name, reason)
-        if self._drop(name):
-            yield Step(self.prefix + name, None, done, of)
-
-    def _drop(self, name: bytes) -> bool:
-        """Notes that the session has a document no longer. Whether it had it, as far as is known."""
         revision, path = _split(name)
-        held = self.held.get(revision, {})
-        was_held = path in held
-        self._bytes -= held.pop(path, 0)
+        self._leave_out(name, reason)
+        if path in self.held[revision]:
+            yield Step(self.prefix + name, None, done, of)
+            self._drop(name)
+
+    def _drop(self, name: bytes) -> None:
+        """Notes that the session has a document no longer."""
+        revision, path = _split(name)
+        self._bytes -= self.held.get(revision, {}).pop(path, 0)
         self._new.discard(name)
-        return was_held
 
     def _leave_out(self, name: bytes, reason: str) -> None:
         if self.left_out.get(name) != reason:
@@ -388,6 +397,37 @@ class Objects:
         """What is left out and was not given before."""
         news, self._news = self._news, []
         return news
+
+
+def _gathered(gone: list[bytes], held: Iterable[bytes]) -> Iterator[tuple[bytes, list[bytes]]]:
+    """The paths that go, of all that are held: those of a folder of which none stays together, unless they are too many, behind what they begin
+    with, which ends with a `/` or is empty for all; and each other one behind itself."""
+    lost = set(gone)
+    staying = _folders(path for path in held if path not in lost) if len(lost) > 1 else set()
+    counts = collections.Counter(folder for path in gone for folder in _above(path))
+    groups: dict[bytes, list[bytes]] = {}
+    for path in gone:
+        begin = next((folder for folder in _above(path) if folder not in staying and counts[folder] <= MOST_TOGETHER), path)
+        groups.setdefault(begin, []).append(path)
+    for begin, paths in groups.items():
+        yield begin if len(paths) > 1 else paths[0], paths
+
+
+def _folders(paths: Iterable[bytes]) -> set[bytes]:
+    """All folders that paths are in, as `_above` gives them."""
+    found: set[bytes] = set()
+    for path in paths:
+        if path[: path.rfind(b"/") + 1] not in found:
+            found.update(_above(path))
+    return found
+
+
+def _above(path: bytes) -> Iterator[bytes]:
+    """The folders that a path is in, each as the beginning of the path, from the empty one at the top."""
+    at = 0
+    yield path[:0]
+    while at := path.find(b"/", at) + 1:
+        yield path[:at]
 
 
 def _split(name: bytes) -> tuple[str, bytes]:

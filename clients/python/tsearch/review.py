@@ -306,6 +306,7 @@ class Review:
     ) -> None:
         self._session = session
         self._prefix = prefix_of_its_own() if prefix is None else to_bytes(prefix)
+        self._has_own = prefix is None
         self._patch = Patch(Store(path), before, after, whole)
         self._held: set[bytes] = set()
         self._life = 0
@@ -347,7 +348,9 @@ class Review:
     def close(self) -> None:
         """Removes the documents. A second call does nothing."""
         with self._session.feeding:
-            for name in self._held:
+            if self._held and self._has_own:
+                self._session.remove_under(self._prefix)
+            for name in () if self._has_own else self._held:
                 self._session.remove(self._prefix + name)
             if self._held:
                 self._held.clear()

@@ -206,7 +206,7 @@ class Repository:
         self.hint()
         await keeping
         with contextlib.suppress(Error, OSError):
-            await self.kept.drop()
+            await self.kept.drop(self.prefix)
 
     async def _look(self, say: Callable[[str], None]) -> None:
         try:
