@@ -125,6 +125,44 @@ class Clusters(unittest.IsolatedAsyncioTestCase):
                 told = [under.told(reason and tsearch.ChangeRefused(reason, b"a")) for reason in reasons]
                 self.assertEqual([one and one.reason for one in told], [None, None, "full"])
 
+    async def test_refusals_of_a_look_that_fails(self) -> None:
+        """As in one session: they are told to the source whose they are, unless what was refused has changed since."""
+        from tsearch import aio
+
+        top = pathlib.Path(self.enterContext(tempfile.TemporaryDirectory()))
+        for folder in "ab":
+            (top / folder).mkdir()
+        fails = False
+
+        def progress(done: int, of: int) -> None:
+            if fails and done >= 2:
+                raise RuntimeError
+
+        from tsearch.cluster import Cluster
+
+        await self.cluster.close()
+        async with asyncio.timeout(2 * SECONDS), Cluster(self.client, 2, max_line=None) as cluster:
+            kept = aio.Folder(cluster, top / "a", prefix="a/", progress=progress)
+            other = aio.Folder(cluster, top / "b", prefix="b/")
+            for publishes in True, False:
+                for name in "1234":
+                    (top / "a" / name).write_text("old\n")
+                await kept.refresh()
+                for name in "12":
+                    (top / "a" / name).write_text("x" * 20_000)
+                (top / "a/3").write_text("newer\n")
+                (top / "b/1").write_text(f"{publishes}\n")
+                fails = True
+                with self.assertRaises(RuntimeError):
+                    await kept.refresh()
+                if publishes:
+                    self.assertEqual((await other.refresh()).published.refused, ())
+                fails = False
+                (top / "a/1").write_text("new\n")
+                refreshed = await kept.refresh()
+                self.assertEqual((refreshed.left_out, kept.left_out), ([(b"2", "line too long")], {b"2": "line too long"}))
+                self.assertEqual([hit[:3:2] for hit in await cluster.find("", names="^a/")], [(b"a/1", b"new"), (b"a/3", b"newer"), (b"a/4", b"old")])
+
     async def test_the_example_of_the_page(self) -> None:
         text = (PACKAGE / "README.md").read_text(encoding="utf-8")
         code, wanted = re.search(r"^```py\n(.*?)^```\n\n```output\n(.*?)^```", text, re.MULTILINE | re.DOTALL).groups()

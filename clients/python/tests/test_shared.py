@@ -1,5 +1,7 @@
 """Repositories that share a session: searches over several, what one of them lacks, and repositories and revisions that come and go."""
 
+from __future__ import annotations
+
 import asyncio
 import concurrent.futures
 import contextlib
@@ -400,6 +402,9 @@ class Told:
     async def publish(self) -> Published:
         return Published(1, 1, len(self.documents), 0, 0, 0, 0)
 
+    def changes(self, refusals: list) -> Told:
+        return self
+
 
 class Keeping(unittest.IsolatedAsyncioTestCase):
     async def test_a_call_that_fails_between_two_changes(self) -> None:
@@ -423,6 +428,86 @@ class Keeping(unittest.IsolatedAsyncioTestCase):
         (top / "c").write_text("newest")
         await kept.refresh()
         self.assertEqual(session.documents, {b"a": b"newer", b"b": b"newer", b"c": b"newest", b"d": b"newer"})
+
+    async def test_refusals_of_a_look_that_fails(self) -> None:
+        """They are told to the source whose they are, though another one publishes them, and not to that one."""
+        top = pathlib.Path(self.enterContext(tempfile.TemporaryDirectory()))
+        for folder in "ab":
+            (top / folder).mkdir()
+        long, fails = "x" * 20_000 + "\n", False
+
+        def progress(done: int, of: int) -> None:
+            if fails and done >= 2:
+                raise RuntimeError
+
+        for text in "long", "mended", "gone":
+            async with aio.Session.started(max_line=None) as session:
+                kept = aio.Folder(session, top / "a", prefix="a/", progress=progress)
+                other = aio.Folder(session, top / "b", prefix="b/")
+                for name in "12345":
+                    (top / "a" / name).write_text("old\n")
+                await kept.refresh()
+                # the first one is known, and the second is new
+                (top / "a/1").write_text(long)
+                (top / "a/15").write_text(long)
+                (top / "a/3").write_text("old, changed\n")
+                (top / "b/1").write_text(f"{text}\n")
+                fails = True
+                with self.assertRaises(RuntimeError):
+                    await kept.refresh()
+                refreshed = await other.refresh()
+                self.assertEqual((refreshed.put, refreshed.left_out, refreshed.published.refused), (1, [], ()))
+                fails = False
+                if text == "mended":
+                    (top / "a/1").write_text("new\n")
+                elif text == "gone":
+                    (top / "a/1").unlink()
+                refreshed = await kept.refresh()
+                wanted = {b"15": "line too long", **({b"1": "line too long"} if text == "long" else {})}
+                self.assertEqual(({one.removeprefix(b"a/"): kept.left_out[one] for one in kept.left_out}, dict(refreshed.left_out)), (wanted, wanted))
+                names = [b"a/2", b"a/3", b"a/4", b"a/5"]
+                self.assertEqual((await session.find("old", names="^a/", names_only=True)).names(), names)
+                self.assertEqual(kept.totals[0], len(names) + (text == "mended"))
+                self.assertEqual((await session.status()).documents, kept.totals[0] + 1)
+                # what was refused is tried again once it has changed
+                (top / "a/15").write_text("old\n")
+                await kept.refresh()
+                self.assertEqual(len(await session.find("old", names="^a/15$")), 1)
+                (top / "a/15").unlink()
+
+    def test_the_same_refusals_with_threads(self) -> None:
+        top = pathlib.Path(self.enterContext(tempfile.TemporaryDirectory()))
+        for folder in "ab":
+            (top / folder).mkdir()
+            (top / folder / "1").write_text("old\n")
+            (top / folder / "2").write_text("old\n")
+        fails = False
+
+        def progress(done: int, of: int) -> None:
+            if fails and done == 1:
+                raise RuntimeError
+
+        with tsearch.Session(max_line=None) as session:
+            kept = tsearch.Folder(session, top / "a", prefix="a/", progress=progress)
+            other = tsearch.Folder(session, top / "b", prefix="b/")
+            kept.refresh()
+            (top / "a/1").write_text("x" * 20_000)
+            (top / "a/2").write_text("newer\n")
+            fails = True
+            with self.assertRaises(RuntimeError):
+                kept.refresh()
+            self.assertEqual(other.refresh().published.refused, ())
+            fails = False
+            self.assertEqual(kept.refresh().left_out, [(b"1", "line too long")])
+            self.assertEqual([hit.name for hit in session.find("")], [b"a/2", b"b/1", b"b/2"])
+            # what a restart refuses is told to each, too, and changes of others as before
+            session.kill()
+            (top / "a/1").write_text("y" * 20_000)
+            session.restart(kept.feed)
+            session.put("bad", b"\0")
+            refreshed = kept.refresh()
+            self.assertEqual([(one.name, one.reason) for one in refreshed.published.refused], [(b"bad", "byte 0 in body")])
+            self.assertEqual((kept.left_out, len(session.find("", names="^a/"))), ({b"1": "line too long"}, 1))
 
     async def test_a_session_that_another_one_has_started_again(self) -> None:
         """Each source sends all that it has at its next look. What is dropped is removed."""

@@ -5,6 +5,7 @@ from __future__ import annotations
 import asyncio
 import collections
 import contextlib
+import dataclasses
 import itertools
 import os
 from asyncio import subprocess
@@ -13,7 +14,7 @@ from typing import TYPE_CHECKING, Any, Unpack
 
 from .answers import Answer, Published, Status, joined
 from .core import Core, Sent, SentSearch, ended_by, ended_with, status_of, value_of
-from .errors import Ended, Error
+from .errors import ChangeRefused, Ended, Error
 from .folder import BATCH, MOST_TOGETHER, Files, Progress, Refreshed, Source, Step
 from .git import Objects, Store
 from .names import to_bytes
@@ -24,6 +25,7 @@ from .review import Found, Patch, cut, prefix_of_its_own, query_in, refused_in, 
 from .session import MOST_OPEN, MOST_TRIES
 
 if TYPE_CHECKING:
+    from .cluster import Changes as ClusterChanges
     from .cluster import Cluster
 
 __all__ = ["Change", "Changes", "Folder", "Review", "Revisions", "Search", "Session"]
@@ -255,10 +257,11 @@ class Search:
 
 class Changes:
     """What changes the documents of a session. A `restart` passes one to its callback, and every `Session` is one. The methods are
-    those of `tsearch.Changes`, with `await`: each returns once the program has taken nearly all that was sent."""
+    those of `tsearch.Changes`, with `await`: each returns once the program has taken nearly all that was sent. `refusals` is as there."""
 
-    def __init__(self, connection: _Connection) -> None:
+    def __init__(self, connection: _Connection, refusals: list[ChangeRefused] | None = None) -> None:
         self._connection = connection
+        self._refusals = refusals
 
     @property
     def life(self) -> int:
@@ -268,25 +271,31 @@ class Changes:
     async def put(self, name: str | bytes, body: str | bytes) -> Change:
         """Adds a document, or replaces the one of this name. The body is bytes, or text that is sent as UTF-8."""
         data = body.encode() if isinstance(body, str) else bytes(body)
-        connection = self._connection
-        return Change(connection, await connection.send(lambda core: core.put(name, data)))
+        return await self._change(lambda core: core.put(name, data))
 
     async def load(self, name: str | bytes, path: str | bytes | os.PathLike[str] | os.PathLike[bytes]) -> Change:
         """Adds a document, or replaces the one of this name, with the bytes of a file that the program reads. A path that is not
         absolute starts at the folder that the program runs in."""
-        connection = self._connection
-        return Change(connection, await connection.send(lambda core: core.load(name, os.fsencode(path))))
+        return await self._change(lambda core: core.load(name, os.fsencode(path)))
 
     async def remove(self, name: str | bytes) -> Change:
         """Removes a document."""
-        connection = self._connection
-        return Change(connection, await connection.send(lambda core: core.remove(name)))
+        return await self._change(lambda core: core.remove(name))
 
     async def remove_under(self, prefix: str | bytes) -> Change:
         """Removes each document whose name begins with the prefix. It is one change; it is refused if there is no such document, and
         for a prefix that cannot be a name, as the empty one."""
+        return await self._change(lambda core: core.remove_under(prefix))
+
+    async def _change(self, make: Callable[[Core], tuple[Sent, list[bytes]]]) -> Change:
         connection = self._connection
-        return Change(connection, await connection.send(lambda core: core.remove_under(prefix)))
+
+        def made(core: Core) -> tuple[Sent, list[bytes]]:
+            sent, parts = make(core)
+            sent.refusals = self._refusals
+            return sent, parts
+
+        return Change(connection, await connection.send(made))
 
     async def mark(self) -> Awaitable[object]:
         """Marks what was sent until now. Whoever awaits what is given back waits until the program has carried all of it out. `Ended`."""
@@ -512,6 +521,8 @@ class Kept:
         self._is_pending = False
         # steps that the source has given and that are not sent; some stay where a call before them fails
         self._unsent: collections.deque[Step] = collections.deque()
+        # what the program has refused, and the source has not been told: also of a look that has failed, whoever publishes next
+        self._refused: list[ChangeRefused] = []
         # how often the program was started that has what the source knows of
         self._life = 0
         # not while a publish may have been carried out that `published` has not been told of
@@ -544,36 +555,50 @@ class Kept:
 
     async def _refresh(self, look: Callable[[], Iterator[Step]]) -> Refreshed:
         async with self._lock:
-            changes = _changes_of(self._session)
+            changes = _changes_of(self._session, self._refused)
             if changes.life != self._life:
-                # another program, which has nothing of it
-                self._source.forget()
-                self._unsent.clear()
-                self._life, self._is_pending, look = changes.life, False, self._source.steps
+                self._begin(changes.life)
+                look = self._source.steps
             steps = look()
             if not await self._has_more(steps) and not self._is_pending:
                 await self._session.status()  # it may have ended
                 return Refreshed(0, 0, self._source.take_news(), None)
             # who else changes the session waits only from here on
             async with self._session.feeding:
+                if self._is_pending:
+                    # of a look that has failed: a refusal of it is of no body that is sent now
+                    if isinstance(changes, Changes):
+                        await (await changes.mark())
+                    await self._take_refusals(changes)
                 put, removed = await self._send(changes, self._before_change, steps)
-                published = await self._publish()
+                published = await self._publish(changes)
             return Refreshed(put, removed, self._source.take_news(), published)
 
-    async def _publish(self) -> Published:
+    def _begin(self, life: int) -> None:
+        """Begins with another program, which has nothing of it."""
+        self._source.forget()
+        self._unsent.clear()
+        self._refused.clear()
+        self._life, self._is_pending = life, False
+
+    async def _publish(self, changes: Changes | ClusterChanges) -> Published:
         self.settled.clear()
         try:
-            published = await self._session.publish()
-            if published.life != self._life:
-                raise Ended(None)
-            self._is_pending = False
-            self._published(published)
-            if without := await self._remove(published):
-                published = without
-                self._published(published)
+            published = await self._publish_once()
+            if await self._take_refusals(changes):
+                published = await self._publish_once()
             return published
         finally:
             self.settled.set()
+
+    async def _publish_once(self) -> Published:
+        published = await self._session.publish()
+        if published.life != self._life:
+            raise Ended(None)
+        self._is_pending = False
+        published = dataclasses.replace(published, refused=(*self._refused, *published.refused))
+        self._published(published)
+        return published
 
     async def drop(self, under: bytes = b"") -> None:
         """Removes all documents of the source from the session, a few with each publish: one that removed all of them would hold up
@@ -587,8 +612,7 @@ class Kept:
                 await self._remove_some(few)
             if under and self._life == self._session.life:
                 await self._remove_some([Step(under, None, 0, 1, under=1)])
-            self._source.forget()
-            self._unsent.clear()
+            self._begin(0)
 
     async def _remove_some(self, steps: list[Step]) -> None:
         async with self._session.feeding:
@@ -604,7 +628,9 @@ class Kept:
             published = await self._session.restart(self._feed)
             if published:
                 self._is_pending = False
-                await self._remove(published)
+                published = dataclasses.replace(published, refused=(*self._refused, *published.refused))
+                if await self._take_refusals(_changes_of(self._session, self._refused)):
+                    await self._publish_once()
             return published
 
     async def find(self, pattern: str | bytes, **options: Unpack[Options]) -> Answer:
@@ -618,10 +644,8 @@ class Kept:
             await self._feed(changes)
 
     async def _feed(self, changes: Changes) -> None:
-        self._source.forget()
-        self._unsent.clear()
-        self._life = changes.life
-        await self._send(changes, None, self._source.steps())
+        self._begin(changes.life)
+        await self._send(Changes(changes._connection, self._refused), None, self._source.steps())
         self._is_pending = True
 
     async def _has_more(self, steps: Iterator[Step]) -> bool:
@@ -630,7 +654,7 @@ class Kept:
         return bool(self._unsent)
 
     async def _send(
-        self, changes: Changes | Cluster, before_change: Callable[[bytes], Awaitable[object]] | None, steps: Iterator[Step]
+        self, changes: Changes | ClusterChanges, before_change: Callable[[bytes], Awaitable[object]] | None, steps: Iterator[Step]
     ) -> tuple[int, int]:
         put = removed = 0
         loaded: Awaitable[object] | None = None
@@ -642,6 +666,7 @@ class Kept:
                 # while the program has the next ones
                 await loaded
                 self._progress(done - BATCH, of)
+                assert isinstance(changes, Changes)
                 loaded = await changes.mark()
             elif not loaded:
                 self._progress(done, of)
@@ -660,17 +685,22 @@ class Kept:
                 put += 1
             self._unsent.popleft()
         if loaded:
+            assert isinstance(changes, Changes)
             await (await changes.mark())
         if put or removed:
             self._progress(put + removed, put + removed)
         return put, removed
 
-    async def _remove(self, published: Published) -> Published | None:
-        """Removes documents whose new bodies were refused, so that the old ones are not found."""
-        stale = self._source.take_refusals(published.refused)
+    async def _take_refusals(self, changes: Changes | ClusterChanges) -> bool:
+        """Removes documents whose new bodies were refused, so that the old ones are not found. Whether there are some."""
+        refused = tuple(self._refused)
+        self._refused.clear()
+        later = {step.name for step in self._unsent} if refused else set()
+        stale = self._source.take_refusals(tuple(refusal for refusal in refused if refusal.name not in later))
         for name in stale:
-            await self._session.remove(name)
-        return await self._session.publish() if stale else None
+            self._is_pending = True
+            await changes.remove(name)
+        return bool(stale)
 
 
 class Folder(Kept):
@@ -823,12 +853,13 @@ class Revisions(Kept):
         return self._objects
 
 
-def _changes_of(session: Session | Cluster) -> Changes | Cluster:
-    """What changes the documents of the program that runs now, and of none that is started after it."""
-    return Changes(session._connection) if isinstance(session, Session) else session
+def _changes_of(session: Session | Cluster, refusals: list[ChangeRefused] | None = None) -> Changes | ClusterChanges:
+    """What changes the documents of the program that runs now, and of none that is started after it. Refusals are added to a list, if one is
+    given."""
+    return Changes(session._connection, refusals) if isinstance(session, Session) else session.changes(refusals)
 
 
-async def _remove(changes: Changes | Cluster, step: Step) -> None:
+async def _remove(changes: Changes | ClusterChanges, step: Step) -> None:
     """Sends a step that removes a document, or all under a prefix."""
     await (changes.remove_under(step.name) if step.under else changes.remove(step.name))
 

@@ -17,7 +17,7 @@ import pickle
 import time
 import weakref
 import zlib
-from collections.abc import Iterator
+from collections.abc import Iterator, Sequence
 from dataclasses import dataclass
 from typing import Any, NamedTuple, Unpack
 
@@ -64,17 +64,22 @@ class ShardLost(Error):
 
 
 class _Put(NamedTuple):
-    """A document to put, or to remove if there is no body."""
+    """A document to put, or to remove if there is no body; and where its refusal is told, if not by the next publish."""
 
     name: bytes
     body: bytes | None
+    refusals: list[ChangeRefused] | None = None
+
+    def __reduce__(self) -> tuple[type[_Put], tuple[bytes, bytes | None]]:
+        return _Put, (self.name, self.body)
 
 
 class _Under:
     """The documents under a prefix, to be removed. It is one change in all lanes, and each shard has its part of them."""
 
-    def __init__(self, prefix: bytes, shards: int) -> None:
+    def __init__(self, prefix: bytes, shards: int, refusals: list[ChangeRefused] | None = None) -> None:
         self.prefix = prefix
+        self.refusals = refusals
         # of how many shards it is not known what they say
         self._left = shards
         self._is_accepted = False
@@ -398,12 +403,14 @@ class _Lane:
         elif isinstance(item, _Publish):
             refused = dict(outcome)
             changes = [change for change in self._pending if not isinstance(change, _Publish)]
+            last = {change.name: at for at, change in enumerate(changes) if isinstance(change, _Put)} if refused else {}
             for at, change in enumerate(changes):
-                self._note_change(change, refused.get(at))
+                self._note_change(change, refused.get(at), not isinstance(change, _Put) or last.get(change.name, at) == at)
             self._pending.clear()
 
-    def _note_change(self, change: _Put | _Under, refusal: ChangeRefused | None) -> None:
-        """Notes what a change comes to that is published, or refused."""
+    def _note_change(self, change: _Put | _Under, refusal: ChangeRefused | None, is_last: bool) -> None:
+        """Notes what a change comes to that is published, or refused. Who has a list for refusals is told that of the last change of a name
+        alone: what it says is of the document."""
         if refusal is None:
             is_put = isinstance(change, _Put)
             gone = [change.name] if is_put else [name for name in self.documents if name.startswith(change.prefix)]
@@ -412,8 +419,10 @@ class _Lane:
             if is_put and change.body is not None:
                 self.documents[change.name] = change.body
         told = change.told(refusal) if isinstance(change, _Under) else refusal
-        if told:
+        if told and change.refusals is None:
             self._untold.append(told)
+        elif told and change.refusals is not None and is_last:
+            change.refusals.append(told)
 
 
 def _size_of(item: Item) -> int:
@@ -433,7 +442,50 @@ def _batches(items: list[_Put]) -> Iterator[list[Item]]:
         yield batch
 
 
-class Cluster:
+class Changes:
+    """What changes the documents of a cluster. Every `Cluster` is one.
+
+    refusals: a list to which refusals are added as they come, and then no publish tells them.
+    """
+
+    def __init__(self, lanes: Sequence[_Lane], refusals: list[ChangeRefused] | None = None) -> None:
+        self._lanes = lanes
+        self._refusals = refusals
+
+    @property
+    def life(self) -> int:
+        """1: versions are counted here, and do not begin again."""
+        return 1
+
+    async def put(self, name: str | bytes, body: str | bytes) -> None:
+        """Adds a document, or replaces the one of this name. Returns once it is handed over, and not too much waits. Refusals are told
+        by the publish; `ChangeRefused` at once for a bad name."""
+        await self._change(_Put(names.to_bytes(name), body.encode() if isinstance(body, str) else body, self._refusals))
+
+    async def remove(self, name: str | bytes) -> None:
+        """Removes a document. Refusals are told by the publish; `ChangeRefused` at once for a bad name."""
+        await self._change(_Put(names.to_bytes(name), None, self._refusals))
+
+    async def remove_under(self, prefix: str | bytes) -> None:
+        """Removes each document whose name begins with the prefix, from all shards in one change, which the next publish shows. The publish
+        tells that it is refused if no shard has such a document; `ChangeRefused` at once for a prefix that cannot be a name, as the empty
+        one."""
+        under = _Under(names.to_bytes(prefix), len(self._lanes), self._refusals)
+        names.checked(under.prefix)
+        # all of them in one step, so that no publish comes between
+        for lane in self._lanes:
+            lane.send(under)
+        for lane in self._lanes:
+            await lane.wait_for_room()
+
+    async def _change(self, change: _Put) -> None:
+        names.checked(change.name)
+        lane = self._lanes[zlib.crc32(change.name) % len(self._lanes)]
+        lane.send(change)
+        await lane.wait_for_room()
+
+
+class Cluster(Changes):
     """Documents over several shards, for the tasks of one loop.
 
         async with Client(address, asynchronous=True) as client, Cluster(client, 4) as cluster:
@@ -456,48 +508,20 @@ class Cluster:
         # what was refused before a publish that has failed
         self._untold: list[ChangeRefused] = []
         self.feeding = asyncio.Lock()
-        self._lanes = [_Lane(number, client, call_seconds, options) for number in range(shards)]
+        super().__init__([_Lane(number, client, call_seconds, options) for number in range(shards)])
 
     @property
     def heals(self) -> int:
         """How often a shard was lost."""
         return sum(lane.heals for lane in self._lanes)
 
-    @property
-    def life(self) -> int:
-        """1: versions are counted here, and do not begin again."""
-        return 1
-
     async def pids(self) -> list[int | None]:
         """The numbers of the programs' processes, one for each shard."""
         return [await lane.pid() for lane in self._lanes]
 
-    async def put(self, name: str | bytes, body: str | bytes) -> None:
-        """Adds a document, or replaces the one of this name. Returns once it is handed over, and not too much waits. Refusals are told
-        by the publish; `ChangeRefused` at once for a bad name."""
-        await self._change(_Put(names.to_bytes(name), body.encode() if isinstance(body, str) else body))
-
-    async def remove(self, name: str | bytes) -> None:
-        """Removes a document. Refusals are told by the publish; `ChangeRefused` at once for a bad name."""
-        await self._change(_Put(names.to_bytes(name), None))
-
-    async def remove_under(self, prefix: str | bytes) -> None:
-        """Removes each document whose name begins with the prefix, from all shards in one change, which the next publish shows. The publish
-        tells that it is refused if no shard has such a document; `ChangeRefused` at once for a prefix that cannot be a name, as the empty
-        one."""
-        under = _Under(names.to_bytes(prefix), len(self._lanes))
-        names.checked(under.prefix)
-        # all of them in one step, so that no publish comes between
-        for lane in self._lanes:
-            lane.send(under)
-        for lane in self._lanes:
-            await lane.wait_for_room()
-
-    async def _change(self, change: _Put) -> None:
-        names.checked(change.name)
-        lane = self._lanes[zlib.crc32(change.name) % len(self._lanes)]
-        lane.send(change)
-        await lane.wait_for_room()
+    def changes(self, refusals: list[ChangeRefused] | None = None) -> Changes:
+        """What changes the same documents, with a list for what is refused of these changes."""
+        return Changes(self._lanes, refusals)
 
     async def publish(self) -> Published:
         """Lets searches see all changes so far, and gives what is published then, with the changes that were refused since the last publish

@@ -43,12 +43,14 @@ _OF_SEARCHES = {"cancelled": Cancelled, "too slow": TooSlow, "out of memory": Se
 class Sent:
     """An item that was sent, until it is settled and from then on. The face that waits for it sets `on_settled`."""
 
-    __slots__ = ("line", "name", "is_of_publish", "is_settled", "value", "error", "on_settled")
+    __slots__ = ("line", "name", "refusals", "is_of_publish", "is_settled", "value", "error", "on_settled")
 
     def __init__(self, line: int, name: bytes | None = None) -> None:
         self.line = line
         # of a put, a load or a remove: the document's, or the prefix, as it was given
         self.name = name
+        # of these: where its refusal is told, if not by the next publish
+        self.refusals: list[ChangeRefused] | None = None
         # of a status: it follows a publish, and tells what was refused
         self.is_of_publish = False
         self.is_settled = False
@@ -237,7 +239,7 @@ class Core:
             sent = self._item_at(int(found[1]), head)
             error = sent.refusal(found[2].decode(errors="replace"))
             if isinstance(error, ChangeRefused):
-                self._refused.append(error)
+                (self._refused if sent.refusals is None else sent.refusals).append(error)
             self._settle(sent, error=error)
         else:
             raise NotUnderstood(f"no text of a session is so: {head[:80]!r}")

@@ -3,6 +3,7 @@
 from __future__ import annotations
 
 import codecs
+import dataclasses
 import hashlib
 import os
 import stat
@@ -13,7 +14,7 @@ from typing import NamedTuple, Protocol, Unpack
 
 from . import names
 from .answers import Answer, Published
-from .errors import ChangeRefused
+from .errors import ChangeRefused, Ended
 from .listing import File, Lister, Listing, Stamp
 from .program import MOST_BODY, MOST_NAME
 from .query import Options
@@ -411,6 +412,8 @@ class Kept:
         self._progress = progress or (lambda done, of: None)
         self._lock = threading.Lock()
         self._is_pending = False
+        # what the program has refused, and the source has not been told: also of a look that has failed, whoever publishes next
+        self._refused: list[ChangeRefused] = []
         # how often the program was started that has what the source knows of
         self._life = 0
 
@@ -424,13 +427,17 @@ class Kept:
         """Looks at the source, sends what has changed, and publishes it. A search that is sent afterwards sees all of it. `Ended` if the
         program has ended: then `restart`. `PublishRefused` if there is no memory for the publish: the next `refresh` publishes again."""
         with self._lock, self._session.feeding:
-            if self._session.life != self._life:
-                self._source.forget()
-                self._life = self._session.life
-            put, removed = self._send(self._session)
+            changes = Changes(self._session._connection, self._refused)
+            if changes.life != self._life:
+                self._begin(changes.life)
+            if self._is_pending:
+                # of a look that has failed: a refusal of it is of no body that is sent now
+                changes.mark()()
+                self._take_refusals(changes)
+            put, removed = self._send(changes)
             published = None
             if put or removed or self._is_pending:
-                published = self._publish()
+                published = self._publish(changes)
             else:
                 self._session.status()  # it may have ended
             return Refreshed(put, removed, self._source.take_news(), published)
@@ -441,7 +448,10 @@ class Kept:
         with self._lock:
             published = self._session.restart(self._feed)
             if published:
-                self._remove(self._source.take_refusals(published.refused))
+                self._is_pending = False
+                published = self._with_own(published)
+                if self._take_refusals(Changes(self._session._connection, self._refused)):
+                    self._publish_once()
             return published
 
     def feed(self, changes: Changes) -> None:
@@ -455,10 +465,15 @@ class Kept:
         return self._session.find(pattern, timeout=timeout, **options)
 
     def _feed(self, changes: Changes) -> None:
-        self._source.forget()
-        self._life = changes.life
-        self._send(changes)
+        self._begin(changes.life)
+        self._send(Changes(changes._connection, self._refused))
         self._is_pending = True
+
+    def _begin(self, life: int) -> None:
+        """Begins with another program, which has nothing of it."""
+        self._source.forget()
+        self._refused.clear()
+        self._life, self._is_pending = life, False
 
     def _send(self, changes: Changes) -> tuple[int, int]:
         put = removed = 0
@@ -491,17 +506,30 @@ class Kept:
             self._progress(put + removed, put + removed)
         return put, removed
 
-    def _publish(self) -> Published:
-        published = self._session.publish()
-        self._is_pending = False
-        stale = self._source.take_refusals(published.refused)
-        return self._remove(stale) or published
+    def _publish(self, changes: Changes) -> Published:
+        published = self._publish_once()
+        return self._publish_once() if self._take_refusals(changes) else published
 
-    def _remove(self, stale: list[bytes]) -> Published | None:
-        """Removes documents whose new bodies were refused, so that the old ones are not found."""
+    def _publish_once(self) -> Published:
+        published = self._session.publish()
+        if published.life != self._life:
+            raise Ended(None)
+        self._is_pending = False
+        return self._with_own(published)
+
+    def _with_own(self, published: Published) -> Published:
+        """What is published, with what was refused of this source."""
+        return dataclasses.replace(published, refused=(*self._refused, *published.refused))
+
+    def _take_refusals(self, changes: Changes) -> bool:
+        """Removes documents whose new bodies were refused, so that the old ones are not found. Whether there are some."""
+        refused = tuple(self._refused)
+        del self._refused[: len(refused)]
+        stale = self._source.take_refusals(refused)
         for name in stale:
-            self._session.remove(name)
-        return self._session.publish() if stale else None
+            self._is_pending = True
+            changes.remove(name)
+        return bool(stale)
 
 
 class Folder(Kept):

@@ -18,7 +18,7 @@ from typing import Any, Protocol, Unpack
 
 from .answers import Answer, Published, Status, joined
 from .core import Core, Sent, SentSearch, ended_by, ended_with, status_of, value_of
-from .errors import Ended, Error
+from .errors import ChangeRefused, Ended, Error
 from .program import MOST_BODY, MOST_COMMANDS, MOST_NAME, TO_END, command, kill_group
 from .query import Options, Query
 
@@ -388,10 +388,13 @@ class Changes:
     refusals are in the `Published` of the next publish, and raised by the `wait` of the change. A change that is refused changes
     nothing: an older document of that name stays. Each call waits while a mebibyte has not gone to the program, and raises `Ended`
     once the program has ended.
+
+    refusals: a list to which refusals are added as they come, and then no publish tells them.
     """
 
-    def __init__(self, connection: _Connection) -> None:
+    def __init__(self, connection: _Connection, refusals: list[ChangeRefused] | None = None) -> None:
         self._connection = connection
+        self._refusals = refusals
 
     @property
     def life(self) -> int:
@@ -401,25 +404,31 @@ class Changes:
     def put(self, name: str | bytes, body: str | bytes) -> Change:
         """Adds a document, or replaces the one of this name. The body is bytes, or text that is sent as UTF-8."""
         data = body.encode() if isinstance(body, str) else bytes(body)
-        connection = self._connection
-        return Change(connection, connection.send(lambda core: core.put(name, data)))
+        return self._change(lambda core: core.put(name, data))
 
     def load(self, name: str | bytes, path: str | bytes | os.PathLike[str] | os.PathLike[bytes]) -> Change:
         """Adds a document, or replaces the one of this name, with the bytes of a file that the program reads. A path that is not
         absolute starts at the folder that the program runs in."""
-        connection = self._connection
-        return Change(connection, connection.send(lambda core: core.load(name, os.fsencode(path))))
+        return self._change(lambda core: core.load(name, os.fsencode(path)))
 
     def remove(self, name: str | bytes) -> Change:
         """Removes a document."""
-        connection = self._connection
-        return Change(connection, connection.send(lambda core: core.remove(name)))
+        return self._change(lambda core: core.remove(name))
 
     def remove_under(self, prefix: str | bytes) -> Change:
         """Removes each document whose name begins with the prefix. It is one change; it is refused if there is no such document, and
         for a prefix that cannot be a name, as the empty one."""
+        return self._change(lambda core: core.remove_under(prefix))
+
+    def _change(self, make: Callable[[Core], tuple[Sent, list[bytes]]]) -> Change:
         connection = self._connection
-        return Change(connection, connection.send(lambda core: core.remove_under(prefix)))
+
+        def made(core: Core) -> tuple[Sent, list[bytes]]:
+            sent, parts = make(core)
+            sent.refusals = self._refusals
+            return sent, parts
+
+        return Change(connection, connection.send(made))
 
     def mark(self) -> Callable[[], object]:
         """Marks what was sent until now. What is given back waits until the program has carried all of it out, and raises `Ended`."""
