@@ -339,6 +339,38 @@ class Sharing(unittest.IsolatedAsyncioTestCase):
             with self.assertRaises(Unread):
                 await files.found(dataclasses.replace(answer, life=life, version=version), *files.start(""))
 
+    async def searched(self, texts: dict[str, str], most: int, **options: object) -> tuple[dict[str, object], dict[str, object]]:
+        """What a search for x answers in folders with a text each: how many lines, or why there are none; and how many there are in all."""
+        from tsearch.web.repositories import Files, Filter, Served, Shared
+        from tsearch.web.searching import Search
+
+        session = await self.enterAsyncContext(aio.Session.started(max_answer=most))
+        shared, chosen = Shared(session, self.fail), []
+        for name, text in texts.items():
+            (self.top / name).mkdir(exist_ok=True)
+            (self.top / name / "text").write_text(text)
+            chosen.append((Files(Served(name, os.fsencode(self.top / name)), shared), Filter()))
+            await chosen[-1][0]._look(self.fail)
+        query = Query.of("x", context=0, limit=100, spans=True, **options)
+        search = lambda: Search(shared, chosen, query, "", 60_000, most)  # noqa: E731
+        found = [getattr(one, "answer", one) for one in await search().find()]
+        lines = [[(hit.text, hit.spans and len(hit.spans)) for hit in one] if isinstance(one, Answer) else str(one) for one in found]
+        return dict(zip(texts, lines)), dict(zip(texts, await search().count()))
+
+    async def test_an_answer_that_is_too_long(self) -> None:
+        """It takes no lines from the others; each is asked by itself, and what they have together is not too long either."""
+        texts = {"a": "x one\n", "long": "x" + "y" * 200_000 + "\n", "b": "x two\nno\nx three\n", "none": "y\n"}
+        lines, counts = await self.searched(texts, 100_000)
+        self.assertEqual({name: [text for text, _ in found] if isinstance(found, list) else found for name, found in lines.items()}, {
+            "a": [b"x one"], "long": "answer too long", "b": [b"x two", b"x three"], "none": [],
+        })  # fmt: skip
+        self.assertEqual(counts, {"a": 1, "long": 1, "b": 2, "none": 0})
+        lines, counts = await self.searched({name: "x" + "y" * length for name, length in (("a", 40_000), ("b", 40_001), ("c", 50_000), ("d", 0))}, 100_000)
+        # of the three long ones it is that whose answer comes last
+        self.assertEqual(sorted(found if isinstance(found, str) else f"{len(found)} line" for found in lines.values()), ["1 line"] * 3 + ["answer too long"])
+        self.assertEqual(len(lines["d"]), 1)
+        self.assertEqual(set(counts.values()), {1})
+
     async def expect(self, documents: int) -> None:
         """Waits until the session has so many."""
         async with asyncio.timeout(SECONDS):

@@ -37,6 +37,8 @@ _REFUSED_SEARCH = re.compile(rb"search (\d+) refused: (?:name pattern (\d+): )?(
 _ANSWER = re.compile(rb"search (\d+) version (\d+) (?:lines|names) (\d+)( and more)?(?: rows (\d+))?(?: candidates (\d+) of (\d+))?")
 # No text of a session that is not part of an answer is this long.
 _LONGEST_HEAD = 1_024
+# How a search is refused whose answer has more bytes than the session takes.
+TOO_LONG = "answer too long"
 _OF_SEARCHES = {"cancelled": Cancelled, "too slow": TooSlow, "out of memory": SearchRefused}
 
 
@@ -293,7 +295,7 @@ class Core:
         def keep(rows: bytes) -> None:
             coming.size += len(rows)
             if self._max_answer is not None and coming.size > self._max_answer:
-                raise SearchRefused("answer too long")
+                raise SearchRefused(TOO_LONG)
             coming.parts.append(rows)
 
         return keep

@@ -12,7 +12,8 @@ from collections.abc import Awaitable, Callable, Coroutine, Iterable, Iterator, 
 from typing import Any, NamedTuple
 
 from ..answers import Answer
-from ..errors import Error, PatternRefused, TooSlow
+from ..core import TOO_LONG
+from ..errors import Error, PatternRefused, SearchRefused, TooSlow
 from ..merging import parted
 from ..names import quote, to_bytes
 from ..paths import check, under
@@ -47,15 +48,18 @@ class Search:
     """A search of a visitor in some repositories, each with the filter of the host.
 
     query: without patterns of names it is for all files; those that it has are for paths.
-    search_ms: the time of the search, in milliseconds. If one search over all of them has no answer in half of it, each is asked by itself,
-        the smallest first, and those that then have none are too slow.
+    search_ms: the time of the search, in milliseconds. If one search over all of them has no answer in half of it, or too long a one, each is
+        asked by itself, the smallest first, and those that then have none are too slow.
+    most_bytes: so long all answers together are of those that are asked by themselves. One that would be longer with others before it is too
+        long.
     """
 
-    def __init__(self, shared: Shared, chosen: Sequence[Chosen], query: Query, revision: str, search_ms: int) -> None:
+    def __init__(self, shared: Shared, chosen: Sequence[Chosen], query: Query, revision: str, search_ms: int, most_bytes: int) -> None:
         self._shared = shared
         self._query = query
         self._marks = marks_of(query)
         self._outcomes: list[Found | int | Error | None] = [None] * len(chosen)
+        self._left = most_bytes
         now = asyncio.get_running_loop().time()
         self._half, self._end = now + search_ms / 2_000, now + search_ms / 1_000 + GRACE
         self._turns = asyncio.Semaphore(_AT_ONCE)
@@ -111,6 +115,8 @@ class Search:
         except (TimeoutError, TooSlow):
             return parts
         except Error as fault:
+            if _is_too_long(fault):
+                return parts  # that of one may be, or only that of all
             for part in parts:
                 self._outcomes[part.at] = fault
             return []
@@ -153,7 +159,11 @@ class Search:
         return [part for part in parts if part.at not in done]
 
     async def _find_alone(self, query: Query, part: _Part) -> None:
-        await self._take(part, await self._ask(query, [part]))
+        answer = await self._ask(query, [part])
+        if len(answer.data) > self._left:
+            raise SearchRefused(TOO_LONG)
+        self._left -= len(answer.data)
+        await self._take(part, answer)
 
     async def _take(self, part: _Part, answer: Answer, count: int | None = None) -> None:
         """Notes the answer of a repository, or the number that is asked for."""
@@ -188,6 +198,10 @@ async def _all(calls: Sequence[Coroutine[Any, Any, None]]) -> None:
     async with asyncio.TaskGroup() as tasks:
         for call in calls:
             tasks.create_task(call)
+
+
+def _is_too_long(fault: Error) -> bool:
+    return isinstance(fault, SearchRefused) and fault.reason == TOO_LONG
 
 
 def _error_of(fault: Exception) -> Error:

@@ -385,7 +385,8 @@ class Server:
         chosen = [(found, own) for found, own in self._seen_by(request) if not asked.repositories or found.name in asked.repositories]
         query = dataclasses.replace(asked.query, lane=_lane_of(request))
         async with self._visitors.turn(_address_of(request)), self._turns:
-            outcomes = await made(Search(self._shared, chosen, query, asked.revision, self._settings.limits.search_ms))
+            limits = self._settings.limits
+            outcomes = await made(Search(self._shared, chosen, query, asked.revision, limits.search_ms, limits.answer))
         return [(repository, own, outcome) for (repository, own), outcome in zip(chosen, outcomes, strict=True)]
 
     async def _answer(self, request: web.Request, asked: Asked) -> web.StreamResponse:

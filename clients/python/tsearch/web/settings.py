@@ -24,7 +24,8 @@ _FIELDS = {"commit", "path", "line", "repository"}
 @dataclass(frozen=True)
 class Limits:
     """What no visitor can lift: how many lines an answer has, the milliseconds of a search, how many searches of all visitors are at
-    work at a time, how many lines are shown before and after each line, and how many bytes what a repository answers has: lines may be long."""
+    work at a time, how many lines are shown before and after each line, and how many bytes what a repository answers has, and what all do that
+    are asked by themselves: lines may be long."""
 
     lines: int = 500
     search_ms: int = 3_000
