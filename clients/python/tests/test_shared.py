@@ -14,6 +14,7 @@ import random
 import signal
 import tempfile
 import unittest
+import unittest.mock
 
 from helpers import SECONDS, Model, until
 from made import Made
@@ -417,6 +418,81 @@ class Ending(unittest.IsolatedAsyncioTestCase):
         await asyncio.sleep(0)
         await application._end()
         self.assertEqual(application._leaving, set())
+
+
+@unittest.skipUnless(NO_REASON, REASON)
+class Unforeseen(unittest.IsolatedAsyncioTestCase):
+    async def test_a_fault_that_nobody_has_foreseen(self) -> None:
+        """It is logged, the repository is named and goes on, and so do the others; once it is mended, all is as before."""
+        from tsearch.web import repositories
+        from tsearch.web.repositories import Served, Shared
+        from tsearch.web.server import Server as Application
+        from tsearch.web.settings import Settings
+
+        top, said, broken = pathlib.Path(self.enterContext(tempfile.TemporaryDirectory())), [], False
+        for name in "ab":
+            (top / name).mkdir()
+            (top / name / "text").write_text("x old\n")
+        self.enterContext(unittest.mock.patch.multiple(repositories, _FIRST_REST=0.02, _LONGEST_REST=0.05))
+        application = Application(Settings(served=(), look=0.02, log=str(top / "log")), said.append)
+        session = await self.enterAsyncContext(aio.Session.started())
+        application._shared = Shared(session, said.append)
+        refresh, looks = aio.Folder.refresh, []
+
+        async def refreshed(folder: aio.Folder) -> object:
+            looks.append(folder.root)
+            if broken and folder.root.endswith(b"/a"):
+                raise KeyError("out of nowhere")
+            return await refresh(folder)
+
+        async def until_told(status: int, fault: str) -> dict:
+            async with asyncio.timeout(SECONDS):
+                while True:
+                    health = await application._health(None)
+                    told = json.loads((await application._status(None)).text)["repositories"]
+                    if health.status == status and [one.get("fault", "") for one in told] == [fault, ""]:
+                        return json.loads(health.text)
+                    await asyncio.sleep(0.01)
+
+        self.enterContext(unittest.mock.patch.object(aio.Folder, "refresh", refreshed))
+        for name in "ab":
+            application._add(Served(name, os.fsencode(top / name)))
+        self.assertEqual(await until_told(200, ""), {"ok": True, "not_served": 0})
+        broken = True
+        fault = "a fault that was not foreseen; it is tried again"
+        self.assertEqual(await until_told(503, fault), {"ok": False, "not_served": 1, "repositories": ["a"]})
+        # it is looked at again and again, and the other one is
+        looks.clear()
+        for name in "ab":
+            (top / name / "text").write_text("x new\n")
+        async with asyncio.timeout(SECONDS):
+            while min(looks.count(os.fsencode(top / name)) for name in "ab") < 3:
+                await asyncio.sleep(0.01)
+        async with asyncio.timeout(SECONDS):
+            while [hit.text for hit in await session.find("x")] != [b"x old", b"x new"]:
+                await asyncio.sleep(0.01)
+        broken = False
+        await until_told(200, "")
+        self.assertEqual([hit.text for hit in await session.find("x")], [b"x new"] * 2)
+        rows = [json.loads(row) for row in (top / "log").read_text().splitlines()]
+        self.assertGreater(len(rows), 2)
+        self.assertEqual({(row["repository"], row["fault"]) for row in rows}, {("a", "KeyError('out of nowhere')")})
+        self.assertTrue(all("in refreshed" in row["traceback"] and row["time"] for row in rows))
+        self.assertEqual(said, [f"a: {fault}: KeyError('out of nowhere')"])
+        # while it rests it can be left
+        broken = True
+        await until_told(503, fault)
+        unittest.mock.patch.object(repositories, "_LONGEST_REST", SECONDS * 100).start()
+        self.addCleanup(unittest.mock.patch.stopall)
+        async with asyncio.timeout(SECONDS):
+            application._leave(application._kept.pop("a"))
+            await asyncio.gather(*application._leaving)
+            self.assertEqual((await session.status()).documents, 1)
+            # whose documents cannot be removed
+            with unittest.mock.patch.object(aio.Folder, "drop", side_effect=KeyError("drop")):
+                application._leave(application._kept.pop("b"))
+                await asyncio.gather(*application._leaving, return_exceptions=True)
+        self.assertEqual(said[-1], "b: its documents were not removed: KeyError('drop')")
 
 
 class Told:

@@ -11,6 +11,7 @@ import contextlib
 import dataclasses
 import itertools
 import os
+import traceback
 from collections.abc import AsyncIterator, Callable, Sequence
 from dataclasses import dataclass
 from typing import TYPE_CHECKING, NamedTuple
@@ -33,6 +34,10 @@ if TYPE_CHECKING:
 # In seconds.
 _TO_PUBLISH = 5.0
 _TO_TELL = 1.0
+# So long a repository rests after a fault that nobody has foreseen, and twice as long after each one more, up to the last.
+_FIRST_REST, _LONGEST_REST = 1.0, 60.0
+_LONGEST_FAULT = 4_000
+_UNFORESEEN = "a fault that was not foreseen; it is tried again"
 # So many reviews of a repository are open at a time.
 _MOST_REVIEWS = 4
 # Of so many publishes it is known of which commits they were.
@@ -143,7 +148,8 @@ class Repository:
         self.progress = (0, 0)
         self.seconds = 0.0
         self._hint = asyncio.Event()
-        self._is_leaving = False
+        self._leaving = asyncio.Event()
+        self._rest = 0.0
         # the program that has all of it, and from which version on
         self._read: tuple[int, int] = (0, 0)
         # the program of which publishes are noted
@@ -185,16 +191,23 @@ class Repository:
         """Something may have changed."""
         self._hint.set()
 
-    async def keep(self, seconds: float, say: Callable[[str], None]) -> None:
-        """Keeps it in the session until it is left: looks after each hint, and after so many seconds."""
+    async def keep(self, seconds: float, say: Callable[[str], None], log: Callable[..., None] = lambda **row: None) -> None:
+        """Keeps it in the session until it is left: looks after each hint, and after so many seconds. What goes wrong is said; a fault that
+        nobody has foreseen is logged too, and the next look comes after a while, whatever hints come."""
         self.shared.repositories.add(self)
         try:
-            while not self._is_leaving:
+            while not self._leaving.is_set():
                 self._hint.clear()
-                await self._look(say)
+                try:
+                    await self._look(say)
+                    self._rest = 0.0
+                except Exception as error:  # whatever it is, the others are served, and this one is tried again
+                    log(**unforeseen(self.name, error))
+                    self._fail(say, Error(_UNFORESEEN), repr(error))
+                    self._rest = min(2 * self._rest or _FIRST_REST, _LONGEST_REST)
                 with contextlib.suppress(TimeoutError):
-                    async with asyncio.timeout(seconds):
-                        await self._hint.wait()
+                    async with asyncio.timeout(self._rest or seconds):
+                        await (self._leaving if self._rest else self._hint).wait()
                     # an editor writes several times when it saves
                     await asyncio.sleep(0.05)
         finally:
@@ -202,7 +215,7 @@ class Repository:
 
     async def leave(self, keeping: asyncio.Task[None]) -> None:
         """Ends the task that keeps it, once that has done what it does, and removes its documents."""
-        self._is_leaving = True
+        self._leaving.set()
         self.hint()
         await keeping
         with contextlib.suppress(Error, OSError):
@@ -227,10 +240,10 @@ class Repository:
         except (Error, OSError) as error:
             self._fail(say, error)
 
-    def _fail(self, say: Callable[[str], None], error: Exception) -> None:
-        """Says what is wrong, once for as long as it is."""
+    def _fail(self, say: Callable[[str], None], error: Exception, more: str = "") -> None:
+        """Says what is wrong, once for as long as it is. Only who serves the page is told more of it."""
         if str(error) != self.fault:
-            say(f"{self.name}: {error}")
+            say(f"{self.name}: {error}{f': {more[:_LONGEST_FAULT]}' if more else ''}")
         self.fault = str(error)
         if self.kept.is_pending:
             # the publish of another one may show a part of it
@@ -494,6 +507,12 @@ def _close_review(task: asyncio.Task[aio.Review]) -> None:
 async def _closed(review: aio.Review) -> None:
     with contextlib.suppress(Error):
         await review.close()
+
+
+def unforeseen(repository: str, error: BaseException) -> dict[str, str]:
+    """What the log has of a fault that nobody has foreseen."""
+    trace = "".join(traceback.format_exception(error))
+    return {"repository": repository, "fault": repr(error)[:_LONGEST_FAULT], "traceback": trace[-_LONGEST_FAULT:]}
 
 
 def repository_of(served: Served, shared: Shared) -> Repository:

@@ -29,7 +29,7 @@ from ..shortening import LONGEST, shortened
 from ..watching import hints
 from .marks import marks_of
 from .measures import Histogram, Log, Metrics, memory_of
-from .repositories import Files, Filter, Found, Gone, Objects, Repository, Served, Shared, Unread, repository_of
+from .repositories import Files, Filter, Found, Gone, Objects, Repository, Served, Shared, Unread, repository_of, unforeseen
 from .rows import BLOCK, blocks_of, id_of
 from .searching import GRACE, Search
 from .settings import Limits, Settings, read_served
@@ -253,7 +253,7 @@ class Server:
         except Error as error:
             self._say(f"{served.name}: {error}")
             return
-        task = asyncio.create_task(repository.keep(self._settings.look, self._say))
+        task = asyncio.create_task(repository.keep(self._settings.look, self._say, self._log.write))
         loop = asyncio.get_running_loop()
         changed = lambda: loop.call_soon_threadsafe(repository.hint)  # noqa: E731
         with contextlib.ExitStack() as stack:
@@ -263,7 +263,15 @@ class Server:
     def _leave(self, kept: _Kept) -> None:
         task = asyncio.create_task(kept.leave())
         self._leaving.add(task)
-        task.add_done_callback(self._leaving.discard)
+
+        def left(task: asyncio.Task[None]) -> None:
+            self._leaving.discard(task)
+            fault = None if task.cancelled() else task.exception()
+            if fault:
+                self._log.write(**unforeseen(kept.repository.name, fault))
+                self._say(f"{kept.repository.name}: its documents were not removed: {fault!r}")
+
+        task.add_done_callback(left)
 
     async def _workers(self) -> tuple[int, int]:
         """How many workers of a cluster are needed, and how many there are."""
@@ -567,9 +575,10 @@ class Server:
         return web.Response(status=204)
 
     async def _health(self, request: web.Request) -> web.Response:
-        """Whether all is served."""
+        """Whether all is served, and which is not, unless what may be seen is a matter of who asks."""
         faults = [one.name for one in self._repositories if not one.is_loaded or one.fault]
-        return web.json_response({"ok": not faults, "not_served": len(faults)}, status=503 if faults else 200)
+        which = {"repositories": faults} if faults and self._settings.filters is None else {}
+        return web.json_response({"ok": not faults, "not_served": len(faults), **which}, status=503 if faults else 200)
 
     async def _metrics(self, request: web.Request) -> web.Response:
         """In the text form of Prometheus, version 0.0.4."""
