@@ -212,6 +212,80 @@ class Marking(unittest.TestCase):
         self.assertEqual([marks.can_mark(b"a\n" + b"x" * length + b"\n") for length in (1_000, 1_001)], [True, False])
 
 
+def steps_of(parts: list, line: bytes) -> int:
+    """How many steps a search for all matches of a row of sets takes, each set as often as it can be and then less often: one for each byte that
+    is compared with a set, and one for each place."""
+    count = 0
+
+    def end_of(number: int, at: int) -> int | None:
+        nonlocal count
+        if number == len(parts):
+            return at
+        part, taken = parts[number], 0
+        while part.most is None or taken < part.most:
+            count += 1
+            if at + taken >= len(line) or line[at + taken] not in part.values:
+                break
+            taken += 1
+        for times in range(taken, part.least - 1, -1):
+            if (end := end_of(number + 1, at + times)) is not None:
+                return end
+        return None
+
+    at = 0
+    while at <= len(line):
+        count += 1
+        end = end_of(0, at)
+        at = end if end is not None and end > at else at + 1
+    return count
+
+
+class Work(unittest.TestCase):
+    def marks(self, pattern: str, **options: bool):
+        from tsearch.web.marks import marks_of
+
+        return marks_of(Query.of(pattern, context=0, spans=True, **options))
+
+    def test_no_row_takes_more_than_is_counted(self) -> None:
+        from tsearch.tgrep import ere
+        from tsearch.web.marks import _parts_of
+
+        source, most, rows = random.Random(7), 0.0, 0
+        pieces = ["a", "b", "[ab]", "c", "[cd]", "e", "1", "[12]", "a+", "b*", "c?", "[ab]+", "[cd]*", "1{2,5}", "e{0,3}", "d{1,64}", "[^a]*", "x?", "y*", "a{3}"]
+        chains = ["a+" + "".join(f"{letter}{sign}" for letter in "bcdefghijklm") + "z" for sign in "*?"] + ["b?c?d?e?a", "a{1,64}c", "[ab]{30}c"]
+        for pattern in chains + ["".join(source.choices(pieces, k=source.randint(1, 6))) for _ in range(4_000)]:
+            marks = self.marks(pattern)
+            if marks is None or marks.is_text:
+                continue
+            parts = _parts_of(ere.read(pattern.encode(), False))
+            for letters in b"a", b"ab", b"abcde12":
+                line = bytes(source.choices(letters, k=source.choice([0, 5, 40, 120])))
+                steps, work = steps_of(parts, line), marks.work(b"name\0001:%s\n" % line)
+                self.assertLessEqual(steps, work, (pattern, line))
+                most, rows = max(most, steps / work), rows + 1
+        # it is not far too much either
+        self.assertGreater(most, 0.5)
+        self.assertGreater(rows, 1_000)
+
+    def test_what_takes_too_much_is_left_to_the_program(self) -> None:
+        from tsearch.web.marks import MOST_WORK
+
+        long = b"a" * 900 + b" a1\n"
+        rows = lambda text, count: b"".join(b"some/name.c\0%d:%s" % (number, text) for number in range(count))  # noqa: E731
+        for pattern, text, count, can in (
+            ("[a-z]+1", long, 1, True), ("[a-z]+1", long, 30, False), ("[a-z]+1", b"some words of a line\n", 500, True),
+            ("return", b"    return NULL; /* as most lines are */\n" * 1, 500, True), ("return", b"x" * 2_000 + b"\n", 500, True),
+            ("return", b"x" * 9_000 + b"\n", 500, False), ("a+" + "b*c*d*e*f*g*h*i*j*k*l*m*n*o*p*q*r*s*t*u*v*w*x*y*" + "1", long, 1, False),
+            ("[ab]{60}c", b"a" * 1_500 + b"\n", 500, False), ("[rR]eturn", b"    return NULL; /* as most lines are */\n", 500, True),
+        ):  # fmt: skip
+            marks, data = self.marks(pattern), rows(text, count)
+            self.assertEqual(marks.can_mark(data), can, (pattern, len(text), count))
+            self.assertEqual(marks.work(data) <= MOST_WORK, can, (pattern, len(text), count))
+        # lines around those that were found take none
+        marks = self.marks("[a-z]+1")
+        self.assertEqual(marks.work(b"n\0001-%s" % long + b"n\0002:a1\n"), marks.work(b"n\0002:a1\n"))
+
+
 @unittest.skipUnless(NO_REASON, REASON)
 class Changes(Host):
     def head_of(self, server: Server, repository: str) -> dict:
@@ -352,7 +426,7 @@ class Sharing(unittest.IsolatedAsyncioTestCase):
             (self.top / name / "text").write_text(text)
             chosen.append((Files(Served(name, os.fsencode(self.top / name)), shared), Filter()))
             await chosen[-1][0]._look(self.fail)
-        query = Query.of("x", context=0, limit=100, spans=True, **options)
+        query = Query.of(**{"pattern": "x", "context": 0, "limit": 101, "spans": True, **options})
         search = lambda: Search(shared, chosen, query, "", 60_000, most)  # noqa: E731
         found = [getattr(one, "answer", one) for one in await search().find()]
         lines = [[(hit.text, hit.spans and len(hit.spans)) for hit in one] if isinstance(one, Answer) else str(one) for one in found]
@@ -371,6 +445,22 @@ class Sharing(unittest.IsolatedAsyncioTestCase):
         self.assertEqual(sorted(found if isinstance(found, str) else f"{len(found)} line" for found in lines.values()), ["1 line"] * 3 + ["answer too long"])
         self.assertEqual(len(lines["d"]), 1)
         self.assertEqual(set(counts.values()), {1})
+
+    async def test_marks_that_would_take_too_much(self) -> None:
+        """Nothing is matched here then, and each line has the marks of the program."""
+        from tsearch.web import marks
+
+        texts = {"a": ("x" * 900 + " x1\n") * 100, "b": "x1 and x2\n"}
+        pattern = "x+y*z*u*v*w*1"
+        found = {}
+        for most in 0, 1 << 60:
+            with unittest.mock.patch.object(marks, "MOST_WORK", most):
+                marked = marks.marks_of(Query.of(pattern, context=0, spans=True))
+                lines, _ = await self.searched(texts, 1 << 20, pattern=pattern)
+                self.assertEqual([one for each in lines.values() for _, one in each], [1 if most == 0 else None] * 101)
+                found[most] = {name: [text for text, _ in each] for name, each in lines.items()}
+        self.assertEqual(found[0], found[1 << 60])
+        self.assertFalse(marked.can_mark(b"".join(b"a\0%d:%s\n" % (number, text) for number, text in enumerate(found[0]["a"]))))
 
     async def expect(self, documents: int) -> None:
         """Waits until the session has so many."""

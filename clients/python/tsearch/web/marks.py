@@ -17,6 +17,12 @@ from ..tgrep.ere import Bytes, Group, Repeat, Sequence, Tree
 _MOST_PARTS = 64
 # In bytes: a longer row is left to the program. With a part that has no bound, time grows with the square.
 _LONGEST_ROW, _LONGEST_REPEATED = 16_384, 1_000
+# An answer that may take more work is left to the program: nothing else is done in this process meanwhile, and a thread would have its lock.
+# A step took at most 9 ns; a place at which a match could begin takes so many, whatever stands there.
+MOST_WORK = 4_000_000
+_LEAST_STEPS = 4
+# The text of a row that was found.
+_TEXT = re.compile(rb"\0[0-9]++:([^\n]*+)")
 _WORD = "[0-9A-Za-z_]"
 
 
@@ -27,13 +33,36 @@ class _Part(NamedTuple):
 
 
 class Marks(NamedTuple):
-    """What splits a line at its matches and keeps them, and the longest row for which it is to be used."""
+    """What splits a line at its matches and keeps them.
+
+    longest: the longest row for which it is to be used.
+    reach: how many bytes it looks at from a place on at most; None for all that follow.
+    tries: how often it looks at each of them at most.
+    is_text: whether there is one text alone that it finds, which takes a step for each byte of a line.
+    """
 
     pattern: re.Pattern[bytes]
     longest: int
+    reach: int | None
+    tries: int
+    is_text: bool
+
+    def work(self, data: bytes) -> int:
+        """How many steps the rows of an answer take at most."""
+        if self.is_text:
+            return len(data)
+        total = 0
+        for found in _TEXT.finditer(data):
+            length = found.end(1) - found.start(1) + 1
+            total += length * (2 * _LEAST_STEPS + (length if self.reach is None else 2 * min(length, self.reach)))
+        return total * self.tries // 2
 
     def can_mark(self, data: bytes) -> bool:
-        """Whether no row is too long."""
+        """Whether no row is too long, and all together take not too much work."""
+        least = len(data) * (1 if self.is_text else _LEAST_STEPS)
+        return least <= MOST_WORK and self._has_short_rows(data) and self.work(data) <= MOST_WORK
+
+    def _has_short_rows(self, data: bytes) -> bool:
         at = 0
         while len(data) - at > self.longest:
             end = data.rfind(b"\n", at, at + self.longest + 1)
@@ -61,7 +90,20 @@ def _marks(pattern: bytes, ignores_case: bool, has_words: bool) -> Marks | None:
         found = re.compile(f"({shown})".encode())
     except (IndexError, KeyError, RecursionError, re.error):
         return None  # the program says why
-    return Marks(found, _LONGEST_REPEATED if any(part.most is None for part in parts) else _LONGEST_ROW)
+    is_open = any(part.most is None for part in parts)
+    is_text = not has_words and all(part.least == part.most == len(part.values) == 1 for part in parts)
+    reach = None if is_open else sum(part.most or 0 for part in parts)
+    return Marks(found, _LONGEST_REPEATED if is_open else _LONGEST_ROW, reach, _tries(parts), is_text)
+
+
+def _tries(parts: list[_Part]) -> int:
+    """How often each byte is looked at, at most, in one try from one place: by the part that has it, and when that gives it back, by each of
+    the parts behind that need none, and by the next one. What a part has given back none of these takes."""
+    longest = run = 0
+    for part in parts:
+        run = run + 1 if part.least == 0 else 0
+        longest = max(longest, run)
+    return longest + 2
 
 
 def _parts_of(tree: Tree) -> list[_Part] | None:

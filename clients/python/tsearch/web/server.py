@@ -464,6 +464,7 @@ class Server:
                 answer = await _worked(answer, cut, answer, share, asked.query.context or 0)
             lines, has_more = lines + answer.count, has_more or answer.more
             waiting += _json(_head_of(repository.name, found, answer))
+            await asyncio.sleep(0)  # each has its share of the work on marks
             blocks = blocks_of(answer, repository.name, asked.is_whole, found.start, marks)
             while block := await _worked(answer, next, blocks, b""):
                 waiting += block
