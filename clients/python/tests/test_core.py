@@ -211,11 +211,27 @@ class Receiving(unittest.TestCase):
         self.assertEqual((status.value.refused, second.value.refused), ((), (put.error,)))
 
     def test_a_refused_publish(self) -> None:
+        """What was refused before is told by the next one."""
         core = Core()
+        remove = core.remove("a")[0]
         publish, status, _ = core.publish()
-        core.receive(b"line 1 refused: out of memory\nline 2 status version 0 documents 0 bytes 0 accepted 0 of 9 open 0\n")
+        core.receive(b"line 1 refused: no such file\nline 2 refused: out of memory\nline 3 status version 0 documents 0 bytes 0 accepted 0 of 9 open 0\n")
         self.assertIsInstance(publish.error, PublishRefused)
         self.assertEqual(status.value.refused, ())
+        again = core.publish()[1]
+        core.receive(b"line 5 status version 0 documents 0 bytes 0 accepted 0 of 9 open 0\n")
+        self.assertEqual(again.value.refused, (remove.error,))
+
+    def test_who_has_a_list_for_refusals(self) -> None:
+        """No publish tells them then, and they are there before its status."""
+        core, own = Core(), []
+        first, second = core.remove_under("a/")[0], core.remove("b")[0]
+        first.refusals = own
+        status = core.publish()[1]
+        core.receive(b"line 1 refused: no such file\n")
+        self.assertEqual(own, [first.error])
+        core.receive(b"line 2 refused: no such file\nline 4 status version 0 documents 0 bytes 0 accepted 0 of 9 open 0\n")
+        self.assertEqual((own, status.value.refused), ([first.error], (second.error,)))
 
     def test_what_no_session_writes(self) -> None:
         for written in (

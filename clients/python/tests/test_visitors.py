@@ -1,5 +1,6 @@
 """The visitors of a code host, asked without a browser: other sites, requests that do not come, turns, and what is logged."""
 
+import asyncio
 import concurrent.futures
 import json
 import os
@@ -9,7 +10,7 @@ import socket
 import time
 import unittest
 
-from helpers import SECONDS, SLOW, until
+from helpers import SECONDS, SLOW, stopped, until
 from serving import Server
 from test_host import NO_REASON, REASON, Host
 
@@ -97,6 +98,34 @@ class Visitors(Host):
             # those that wait need not be answered
             os.kill(server.pid, signal.SIGTERM)
 
+    def test_files_of_one_visitor_at_a_time(self) -> None:
+        """Files wait with the searches of a visitor, and each is asked for in its lane."""
+        from tsearch.web import repositories
+
+        (self.top / "tree").mkdir()
+        (self.top / "tree/text").write_text("x\n")
+        server = self.serve("--proxy", "127.0.0.1", "--search-ms", "60000", str(self.top / "tree"))
+        with concurrent.futures.ThreadPoolExecutor(30) as pool, stopped(server.programs()[0]):
+            views = [pool.submit(server.get, "/api/file?name=text", {"X-Forwarded-For": "198.51.100.1"}) for _ in range(30)]
+            until(lambda: sum(view.done() for view in views) == 12)
+            self.assertEqual([view.result()[0] for view in views if view.done()], [429] * 12)
+            os.kill(server.programs()[0], signal.SIGCONT)
+            self.assertEqual(sorted(view.result()[0] for view in views), [200] * 18 + [429] * 12)
+
+        lanes = []
+
+        class Noted:
+            """In place of what repositories share."""
+
+            async def find(self, query) -> None:
+                lanes.append(query.lane)
+
+        files = object.__new__(repositories.Files)
+        files.shared, files._start = Noted(), b"1::"
+        asyncio.run(files.admits(repositories.Filter(("x",)), b"x", b"visitor"))
+        asyncio.run(files.now(b"x", b"visitor"))
+        self.assertEqual(lanes, [b"visitor"] * 2)
+
     def test_addresses(self) -> None:
         from tsearch.web.visitors import Visitors
 
@@ -115,6 +144,7 @@ class Visitors(Host):
             (Asked("127.0.0.1", "198.51.100.1"), "198.51.100.1"), (Asked("127.0.0.1", "1.1.1.1, 198.51.100.1, 10.1.2.3"), "198.51.100.1"),
             (Asked("127.0.0.1", "1.1.1.1", "198.51.100.2"), "198.51.100.2"), (Asked("127.0.0.1", "nonsense"), "127.0.0.1"),
             (Asked("2001:db8::1:2:3:4"), "2001:db8::/64"), (Asked("127.0.0.1", "2001:db8::9"), "2001:db8::/64"),
+            (Asked("::ffff:192.0.2.1"), "192.0.2.1"), (Asked("::ffff:127.0.0.1", "::ffff:198.51.100.1"), "198.51.100.1"),
         ):  # fmt: skip
             self.assertEqual(visitors.address_of(asked), wanted)
 

@@ -801,7 +801,7 @@ class Review:
         """The lines with a match, as `tsearch.review.Review.find` gives them, with its errors."""
         asked = Query.of(pattern, **options)
         if asked.names or asked.not_names:
-            await self._session.find_query(check(asked.names, asked.not_names))
+            await self._session.find_query(dataclasses.replace(check(asked.names, asked.not_names), lane=asked.lane))
         answer = await self._session.find_query(query_in(self._prefix, asked))
         while self.published is None or answer.life != self.published.life:
             # the program was started again, without them

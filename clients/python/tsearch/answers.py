@@ -189,6 +189,7 @@ class Status:
 
 @dataclass(frozen=True)
 class Published(Status):
-    """The status right after a publish, and the puts, loads and removes since the one before that were refused."""
+    """The status right after a publish, and the puts, loads and removes that were refused since the last one that was not. Those that a
+    `Folder` or another source has sent are told to it alone."""
 
     refused: tuple[ChangeRefused, ...] = ()

@@ -45,7 +45,7 @@ _OF_SEARCHES = {"cancelled": Cancelled, "too slow": TooSlow, "out of memory": Se
 class Sent:
     """An item that was sent, until it is settled and from then on. The face that waits for it sets `on_settled`."""
 
-    __slots__ = ("line", "name", "refusals", "is_of_publish", "is_settled", "value", "error", "on_settled")
+    __slots__ = ("line", "name", "refusals", "publish", "is_settled", "value", "error", "on_settled")
 
     def __init__(self, line: int, name: bytes | None = None) -> None:
         self.line = line
@@ -53,8 +53,8 @@ class Sent:
         self.name = name
         # of these: where its refusal is told, if not by the next publish
         self.refusals: list[ChangeRefused] | None = None
-        # of a status: it follows a publish, and tells what was refused
-        self.is_of_publish = False
+        # of a status: the publish that it follows; it tells what was refused before, unless that is
+        self.publish: Sent | None = None
         self.is_settled = False
         self.value: object = None
         self.error: Exception | None = None
@@ -148,7 +148,7 @@ class Core:
         """A publish and a status behind it, by which the publish and all before it are known to be carried out."""
         publish, first = self._item(None, [b"publish\n"])
         status, second = self._item(None, [b"status\n"])
-        status.is_of_publish = True
+        status.publish = publish
         return publish, status, first + second
 
     def status(self) -> tuple[Sent, list[bytes]]:
@@ -233,9 +233,9 @@ class Core:
         elif found := _STATUS.fullmatch(head):
             line, version, documents, size, accepted, most, open_now = map(int, found.groups())
             sent = self._item_at(line, head)
-            refused = tuple(self._refused) if sent.is_of_publish else ()
-            if sent.is_of_publish:
-                self._refused.clear()
+            refused: tuple[ChangeRefused, ...] = ()
+            if sent.publish and sent.publish.error is None:
+                refused, self._refused = tuple(self._refused), []
             self._settle(sent, Published(self._life, version, documents, size, accepted, most, open_now, refused))
         elif found := _REFUSED_LINE.fullmatch(head):
             sent = self._item_at(int(found[1]), head)

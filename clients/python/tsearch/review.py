@@ -337,7 +337,7 @@ class Review:
         `limit` for all lines together. The errors are those of `Session.find`."""
         asked = Query.of(pattern, **options)
         if asked.names or asked.not_names:
-            self._session.find_query(check(asked.names, asked.not_names), timeout=timeout)
+            self._session.find_query(dataclasses.replace(check(asked.names, asked.not_names), lane=asked.lane), timeout=timeout)
         answer = self._session.find_query(query_in(self._prefix, asked), timeout=timeout)
         while answer.life != self._life:
             # the program was started again, without them

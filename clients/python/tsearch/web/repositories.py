@@ -294,12 +294,12 @@ class Repository:
     def _commit_at(self, revision: str, version: int) -> str:
         return ""
 
-    async def admits(self, own: Filter, path: bytes) -> bool:
-        """Whether a path may be seen."""
+    async def admits(self, own: Filter, path: bytes, lane: bytes) -> bool:
+        """Whether a path may be seen. The lane is that of who asks."""
         if not any(own):
             return True
         names, not_names = ([to_bytes(one) for one in patterns] for patterns in own)
-        await self.shared.find(check(names, not_names))
+        await self.shared.find(dataclasses.replace(check(names, not_names), lane=lane))
         wanted, unwanted = ([ere.names(under(one, b"")).has for one in patterns] for patterns in (names, not_names))
         return all(test(quote(path)) for test in wanted) and not any(test(quote(path)) for test in unwanted)
 
@@ -345,32 +345,32 @@ class Files(Repository):
         self._changed.add(name)
         self._history.change(name, before)
 
-    async def _whole(self, name: bytes) -> Answer:
-        return await self.shared.find(Query(b"", names=(document_pattern(name),)))
+    async def _whole(self, name: bytes, lane: bytes | None = None) -> Answer:
+        return await self.shared.find(Query(b"", names=(document_pattern(name),), lane=lane))
 
     def _revision(self, revision: str) -> str:
         if revision:
             raise Gone("there are no revisions, but the files of a folder")
         return ""
 
-    async def view(self, path: bytes, life: int, version: int) -> Answer:
-        """All lines of a file as it was at the version of an answer. `Gone` if it has changed and is not kept, or if the program was
+    async def view(self, path: bytes, life: int, version: int, lane: bytes) -> Answer:
+        """All lines of a file as it was at the version of an answer, asked for in the lane of a visitor. `Gone` if it has changed and is not kept, or if the program was
         started again since; otherwise the errors of `Shared.find`."""
         await self._settled()
         name, history = self._start + path, self._history
         if life == self._life:
             found = history.at(name, version)
             if found is None and history.is_current(name, version):
-                now = await self._whole(name)
+                now = await self._whole(name, lane)
                 # a change may have come meanwhile, and then it is kept by now
                 found = history.at(name, version) or (now if now.life == life else None)
             if found is not None:
                 return found
         raise Gone("the file has changed since this search")
 
-    async def now(self, path: bytes) -> Answer:
-        """All lines of a file as it is."""
-        return await self._whole(self._start + path)
+    async def now(self, path: bytes, lane: bytes) -> Answer:
+        """All lines of a file as it is, asked for in the lane of a visitor."""
+        return await self._whole(self._start + path, lane)
 
 
 class Objects(Repository):

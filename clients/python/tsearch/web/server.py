@@ -529,11 +529,16 @@ class Server:
         repository, own = self._one(request, words.get("repository", ""))
         name = to_bytes(words["name"])
         try:
-            if not await repository.admits(own, name):
-                raise Gone("there is no such file")
-            lines, place = await _lines_at(repository, name, words)
+            async with self._visitors.turn(_address_of(request)), self._turns, asyncio.timeout(self._settings.limits.search_ms / 1_000 + GRACE):
+                if not await repository.admits(own, name, _lane_of(request)):
+                    raise Gone("there is no such file")
+                lines, place = await _lines_at(repository, name, words, _lane_of(request))
         except Gone as gone:
             return web.json_response({"refused": str(gone)}, status=410)
+        except TooMany:
+            return web.json_response({"refused": "too many searches at a time"}, status=429)
+        except TimeoutError:
+            return self._refusal(TooSlow("too slow"))
         except Error as fault:
             return self._refusal(fault)
         if not lines:
@@ -633,7 +638,7 @@ async def _reviewed(repository: Objects, asked: Asked, words: dict[str, str], ow
         return found, {"before": commits[0], "after": commits[1], "left_out": len(review.patch.left_out)}
 
 
-async def _lines_at(repository: Repository, name: bytes, words: dict[str, str]) -> tuple[list[bytes], dict[str, object]]:
+async def _lines_at(repository: Repository, name: bytes, words: dict[str, str], lane: bytes) -> tuple[list[bytes], dict[str, object]]:
     """The lines of a file, and of which state it is. `Gone` if it is not known as it was then."""
     if isinstance(repository, Objects):
         commit = words.get("commit") or next(iter(repository.revisions.values()), "")
@@ -643,9 +648,9 @@ async def _lines_at(repository: Repository, name: bytes, words: dict[str, str]) 
     repository.start("")  # `Unread` if it is not there
     if words.get("version"):
         with contextlib.suppress(Gone) if "now" in words else contextlib.nullcontext():
-            answer = await repository.view(name, int(words["life"]), int(words["version"]))
+            answer = await repository.view(name, int(words["life"]), int(words["version"]), lane)
             return [hit.text for hit in answer], {"life": answer.life, "version": int(words["version"])}
-    answer = await repository.now(name)
+    answer = await repository.now(name, lane)
     return [hit.text for hit in answer], {"life": answer.life, "version": answer.version, **({"changed": True} if words.get("version") else {})}
 
 

@@ -50,7 +50,7 @@ class Visitors:
         found = _parsed(address)
         if found is not None and found.version == 6:
             return str(ipaddress.ip_network((found, _IPV6_OF_ONE), strict=False))
-        return address
+        return str(found or address)
 
     def _is_proxy(self, address: str) -> bool:
         found = _parsed(address)
@@ -75,9 +75,10 @@ class Visitors:
 @functools.lru_cache(4_096)
 def _parsed(text: str) -> ipaddress.IPv4Address | ipaddress.IPv6Address | None:
     try:
-        return ipaddress.ip_address(text)
+        found = ipaddress.ip_address(text)
     except ValueError:
         return None
+    return found.ipv4_mapped or found if isinstance(found, ipaddress.IPv6Address) else found
 
 
 class Connection(web.RequestHandler):
