@@ -163,6 +163,23 @@ class Clusters(unittest.IsolatedAsyncioTestCase):
                 self.assertEqual((refreshed.left_out, kept.left_out), ([(b"2", "line too long")], {b"2": "line too long"}))
                 self.assertEqual([hit[:3:2] for hit in await cluster.find("", names="^a/")], [(b"a/1", b"new"), (b"a/3", b"newer"), (b"a/4", b"old")])
 
+    async def test_the_names_of_a_lane(self) -> None:
+        """Those under a prefix are the same, whatever has come and gone before."""
+        from tsearch.cluster import _Names
+
+        source, documents = random.Random(8), {}
+        names = _Names(documents)
+        for _ in range(3_000):
+            name = bytes(source.choices(b"ab/\xff", k=source.randint(1, 5)))
+            if source.random() < 0.7:
+                documents[name] = b""
+                names.add(name)
+            elif source.random() < 0.3:
+                documents.pop(name, None)
+            else:
+                wanted = {one for one in documents if one.startswith(name)}
+                self.assertEqual({one for one in names.under(name) if documents.pop(one, None) is not None}, wanted)
+
     async def test_the_example_of_the_page(self) -> None:
         text = (PACKAGE / "README.md").read_text(encoding="utf-8")
         code, wanted = re.search(r"^```py\n(.*?)^```\n\n```output\n(.*?)^```", text, re.MULTILINE | re.DOTALL).groups()

@@ -10,6 +10,7 @@ answer in time, the lane makes a new actor, feeds it, and sends the call again.
 from __future__ import annotations
 
 import asyncio
+import bisect
 import contextlib
 import itertools
 import math
@@ -17,7 +18,7 @@ import pickle
 import time
 import weakref
 import zlib
-from collections.abc import Iterator, Sequence
+from collections.abc import Collection, Iterator, Sequence
 from dataclasses import dataclass
 from typing import Any, NamedTuple, Unpack
 
@@ -248,12 +249,42 @@ class _Asked:
             self.future.set_result(outcome)
 
 
+class _Names:
+    """The names of documents in their order, once they are asked for: thousands of prefixes may go at a time."""
+
+    def __init__(self, documents: Collection[bytes]) -> None:
+        self._documents = documents
+        self._sorted: list[bytes] | None = None
+        self._more: list[bytes] = []
+
+    def add(self, name: bytes) -> None:
+        """Notes a name that may be new."""
+        if self._sorted is not None:
+            self._more.append(name)
+            if len(self._more) > len(self._documents):
+                self._sorted, self._more = None, []
+
+    def under(self, prefix: bytes) -> list[bytes]:
+        """Those that begin with a text, which go; among them may be some that have gone before."""
+        if self._sorted is None:
+            self._sorted = sorted(self._documents)
+        elif self._more:
+            self._sorted = sorted(self._sorted + self._more)
+            self._more = []
+        begin = bisect.bisect_left(self._sorted, prefix)
+        end = bisect.bisect_left(self._sorted, True, begin, key=lambda name: not name.startswith(prefix))
+        found = self._sorted[begin:end]
+        del self._sorted[begin:end]
+        return found
+
+
 class _Lane:
     """The way to a shard. It has the documents of the last publish and the changes since, to feed a new actor."""
 
     def __init__(self, number: int, client: Client, call_seconds: float, options: dict[str, Any]) -> None:
         self.heals = 0
         self.documents: dict[bytes, bytes] = {}
+        self._names = _Names(self.documents)
         self.bytes = self.accepted = 0
         self._number = number
         self._client = client
@@ -413,11 +444,12 @@ class _Lane:
         alone: what it says is of the document."""
         if refusal is None:
             is_put = isinstance(change, _Put)
-            gone = [change.name] if is_put else [name for name in self.documents if name.startswith(change.prefix)]
+            gone = [change.name] if is_put else self._names.under(change.prefix)
             self.accepted += is_put or change.is_first()
             self.bytes += _size_of(change) - sum(len(self.documents.pop(name, b"")) for name in gone)
             if is_put and change.body is not None:
                 self.documents[change.name] = change.body
+                self._names.add(change.name)
         told = change.told(refusal) if isinstance(change, _Under) else refusal
         if told and change.refusals is None:
             self._untold.append(told)
