@@ -198,6 +198,12 @@ class Logs(Host):
         until(log.exists)
         server.get("/", {"X-Forwarded-For": "198.51.100.2"})
         until(lambda: [row["path"] for row in rows()] == ["/"])
+        # a log that cannot be opened anew goes on as it is, and so does the rest
+        log.unlink()
+        log.mkdir()
+        os.kill(server.pid, signal.SIGHUP)
+        until(lambda: "the log stays as it was: " in server.log)
+        self.assertEqual(len(server.hits("int main")), 1)
 
     def test_measurements(self) -> None:
         server = self.serve(str(self.made.path))

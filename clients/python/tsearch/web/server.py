@@ -223,7 +223,10 @@ class Server:
     async def read_again(self) -> None:
         """Reads the file of settings again, and serves what it says now; what has not changed goes on. A file with a fault changes nothing.
         The log is opened anew."""
-        self._log.open()
+        try:
+            self._log.open()
+        except OSError as error:
+            self._say(f"the log stays as it was: {error}")
         if self._settings.file is None:
             return
         try:
