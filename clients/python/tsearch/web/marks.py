@@ -18,7 +18,8 @@ _MOST_PARTS = 64
 # In bytes: a longer row is left to the program. With a part that has no bound, time grows with the square.
 _LONGEST_ROW, _LONGEST_REPEATED = 16_384, 1_000
 # An answer that may take more work is left to the program: nothing else is done in this process meanwhile, and a thread would have its lock.
-# A step took at most 9 ns; a place at which a match could begin takes so many, whatever stands there.
+# In the worst of some patterns a step took 8 to 12 ns on a busy machine, and each match up to 70 more, whose number has a bound of its own.
+# A place at which a match could begin takes so many steps, whatever stands there.
 MOST_WORK = 4_000_000
 _LEAST_STEPS = 4
 # The text of a row that was found.
