@@ -2,7 +2,7 @@
 """Compares searches of lines that are longer than the matcher takes with GNU grep in the C locale, by each way in which lines are found.
 
 The bodies have lines of lengths round 16,384 bytes, the most that the matcher takes, round 65,536 bytes, the greatest piece of a
-body, and round 262,144 bytes, the most that the engine takes of a pattern with many parts, with what is looked for at their front, at
+body, and round 262,144 bytes, the most that the engine takes of most patterns (of `needle.{100}x` 612), with what is looked for at their front, at
 their end and over these places. Each pattern is searched as it is, so a small body goes
 line by line and a large one by the engine, and once more with an alternative that matches nothing and is too large for the engine, so by
 the simulation or, if the tree is quick, by the matcher, which leaves the long lines to a simulation. The spans are those of `grep -ob`.
@@ -26,7 +26,7 @@ SECONDS = 300
 # It leaves the matches as they are, and is too large for the engine and quick for the matcher.
 FOR_THE_MATCHER = rb"|$.[acegikmoqsuwyACEGIKMOQSUWY]{255}"
 OPTIONS = ["--readers", "0", "--max-body", "67108864", "--max-line", "67108864"]
-LENGTHS = [0, 1, 7, 100, 16_383, 16_384, 16_385, 16_390, 65_535, 65_536, 65_537, 65_542, 100_000, 140_000]
+LENGTHS = [0, 1, 7, 100, 611, 612, 613, 16_383, 16_384, 16_385, 16_390, 65_535, 65_536, 65_537, 65_542, 100_000, 140_000]
 PATTERNS = [
     b"needle", b"^needle", b"needle$", b"^needle$", b"ne+dle", b"x*needle", b"needlex*$", b"^x*$", b"^(xx)*$", b"n[^x]*", b"x{200}needle",
     b"(needle|xn)e*", b"needle.{100}x", b"[a-z]{6}y", b"((x*n)*e)*dle", b"^x.*needle", b"e.e", b"nee|needle", b"(needle){2}", b"y", b"z*y?",

@@ -154,6 +154,13 @@ def times_are_shown():
             raise Wrong(f"{words}: no slow search waited for the other: {found}")
 
 
+def stars_at_the_front_go_by_the_engine():
+    """`((a*|b)*|c)*d` is searched as `d`, for which the engine's tables are small."""
+    script = put(b"a", b"abc\n" * 3_000 + b"d\n") + b"publish\nsearch ((a*|b)*|c)*d\n"
+    done = subprocess.run([PROGRAM, "--times", "--readers", "0"], input=script, capture_output=True, check=True, timeout=SECONDS)
+    same("the way", re.findall(rb" lines 1 waited \d+ worked \d+ by (\w+)\n", done.stdout), [b"engine"])
+
+
 def search_is_answered_beside_long_ones_by_the_last_reader():
     with Session("--readers", "16") as session:
         session.send(LONG + SLOW_SEARCH * 15)
@@ -308,6 +315,7 @@ ONCE = [
     slow_searches_are_stopped_for_later_ones,
     lanes_are_served_one_after_the_other,
     times_are_shown,
+    stars_at_the_front_go_by_the_engine,
     search_is_answered_beside_long_ones_by_the_last_reader,
     output_that_fails_while_the_input_is_open,
     slow_search_without_readers,

@@ -14,9 +14,6 @@ use Rattle.engine.specs.declared.finding.Finder.{Finder}
 use Rattle.engine.specs.Patterns.{IsFinderOf, IsLineFinderOf}
 use Rattle.engine.specs.SameLines.{CanBeEmpty, HaveSameLines}
 
-pub same_itself : (tree : Tree) → HaveSameLines tree tree
-same_itself tree = λ line. (λ m. m, λ m. m)
-
 pub same_as_its : (one two three : Tree) → HaveSameLines one two → HaveSameLines two three → HaveSameLines one three
 same_as_its one two three left right = λ line. (λ m. (right line).0 ((left line).0 m), λ m. (left line).1 ((right line).1 m))
 

@@ -1,14 +1,14 @@
 //! Compiled patterns.
 
-ghost use Rattle.std.specs.Prelude.{◌≡◌, ◌≤◌, ◌<◌, IfOk, IfSome};
+ghost use Rattle.std.specs.Prelude.{◌≡◌, IfOk, IfSome};
 ghost use Rattle.ere.specs.Tree.{form};
-ghost use Rattle.ere.specs.Limits.{leaves};
 ghost use Rattle.matcher.specs.Steps.{IsQuick};
 ghost use Rattle.regex_hir.specs.Meaning.{meaning};
 ghost use Rattle.regex_meta.specs.Programs.{pattern_of};
 
 use crate::translate::{line_pattern_for, pattern_for};
-use ere::{Ere, capped_leaves};
+use crate::work::{longest_for, takes_long};
+use ere::Ere;
 use matcher::is_quick;
 use regex_compile::Error;
 use regex_hir::Hir;
@@ -24,17 +24,6 @@ const MOST_TABLES: usize = 8192;
 /// The greatest size of the tables for any other tree. With stars inside stars the engine comes closer to its bound, up to
 /// 5 ns for each byte of the tables and of the text, and takes longer than the simulation if the tables are larger than this.
 const MOST_TABLES_IF_NOT_QUICK: usize = 1024;
-
-/// The longest text that the engine should search at one go, in bytes, if the tree has more leaves than `FEW_LEAVES`. With the worst
-/// patterns it then takes some hundredths of a second, in which it cannot be stopped.
-const LONGEST: usize = 262_144;
-
-/// The longest such text if the tree has few leaves.
-const LONGEST_IF_FEW_LEAVES: usize = 8_388_608;
-
-/// With so many leaves, the engine's own tables of states are soon full, whatever the text. From then on it takes 2 to 4 ns for each
-/// byte.
-const FEW_LEAVES: u32 = 12;
 
 /// A pattern compiled for the engine.
 pub struct Compiled {
@@ -60,7 +49,7 @@ impl Compiled {
     ghost use Rattle.engine.specs.Patterns.{IsCompiledFrom, IsCompiledForLines};
 
     /// Compiles the pattern of a tree. Returns `None` if its tables are so large that they would make a search slow:
-    /// over 8,192 bytes, or over 1,024 if the matcher is not quick for the tree.
+    /// over 8,192 bytes, or over 1,024 if the matcher is not quick for the tree; or if it would take many milliseconds to compile it.
     ///
     /// An `Err` means that memory ran out.
     pub fn new(alloc: Global, tree: &Ere) -> Result<Option<Compiled>, AllocError>
@@ -80,10 +69,13 @@ impl Compiled {
     }
 }
 
-/// The pattern of the tree, compiled, unless its tables would be too large.
+/// The pattern of the tree, compiled, unless its tables would be too large, or that would take long.
 fn compiled_from(alloc: Global, tree: &Ere, pattern: Hir) -> Result<Option<Compiled>, AllocError>
     ensures { IfOk result (λ o. IfSome o (λ compiled. pattern_of compiled.program ≡ meaning pattern)) }
 {
+    if takes_long(alloc, tree)? {
+        return Ok(None);
+    }
     match Program::new(alloc, pattern, 1, most_tables(tree)) {
         Ok(program) => Ok(Some(Compiled {
             program,
@@ -103,17 +95,5 @@ fn most_tables(tree: &Ere) -> usize
         MOST_TABLES
     } else {
         MOST_TABLES_IF_NOT_QUICK
-    }
-}
-
-/// The longest text that the tree's pattern should search at one go, in bytes. No answer depends on it.
-fn longest_for(tree: &Ere) -> usize
-    ensures few { leaves (form tree.now) ≤ FEW_LEAVES → result ≡ LONGEST_IF_FEW_LEAVES }
-    ensures many { FEW_LEAVES < leaves (form tree.now) → result ≡ LONGEST }
-{
-    if capped_leaves(tree) <= FEW_LEAVES {
-        LONGEST_IF_FEW_LEAVES
-    } else {
-        LONGEST
     }
 }

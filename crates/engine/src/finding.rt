@@ -55,8 +55,8 @@ impl<'p> Finder<'p> {
         })
     }
 
-    /// The longest text that it should search at one go, in bytes, since nothing can stop it before the text's end: 8 MiB if the tree
-    /// has at most 12 leaves (`ere::capped_leaves`), and otherwise 256 KiB. It takes longer ones too.
+    /// The longest text that it should search at one go, in bytes, since nothing can stop it before the text's end. It takes longer
+    /// ones too.
     pub fn longest(&self) -> usize
         ensures { result ≡ self.now.longest }
     {

@@ -11,6 +11,7 @@ mod finding;
 mod laws;
 mod line;
 mod translate;
+mod work;
 
 pub use compiled::Compiled;
 pub use finding::{Finder, FirstLine};
