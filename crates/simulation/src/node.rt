@@ -114,7 +114,7 @@ pub(crate) fn begins_at_start(node: &Node) -> bool
     }
 }
 
-/// How many nodes there are, with this one.
+/// How many nodes there are, without those that join two.
 #[cycle(count)]
 pub(crate) fn count(node: &Node) -> usize {
     match node {

@@ -64,7 +64,7 @@ impl Simulation {
     ///
     /// The line can have any length. As far as is measured, the time for each of its bytes depends on the tree alone.
     ///
-    /// `watch` is asked each 65,536 bytes, or more often: `CalledOff` means that it said that the answer is not wanted.
+    /// `watch` is asked each 32,768 bytes, or more often: `CalledOff` means that it said that the answer is not wanted.
     pub fn matches<W: Watch>(&mut self, line: &[u8], watch: &mut W) -> Result<bool, CalledOff>
         requires { (tree : Tree) × IsSimulationOf tree self.old }
         ensures same { (tree : Tree) → IsSimulationOf tree self.old → IsSimulationOf tree self.new }
@@ -94,7 +94,7 @@ impl Simulation {
     /// that could become one. The line can have any length. As far as is measured, the time for each of its bytes depends
     /// on the tree alone. Nothing is allocated.
     ///
-    /// `watch` is asked each 65,536 bytes, or more often: `CalledOff` means that it said that the answer is not wanted.
+    /// `watch` is asked each 32,768 bytes, or more often: `CalledOff` means that it said that the answer is not wanted.
     pub fn has_span<W: Watch>(
         &mut self,
         line: &[u8],
@@ -129,7 +129,7 @@ impl Simulation {
     /// This is one pass over the line, from `start` on. It stops where no match is pending any more. The line can have any
     /// length. As far as is measured, the time for each of its bytes depends on the tree alone. Nothing is allocated.
     ///
-    /// `watch` is asked each 65,536 bytes, or more often: `CalledOff` means that it said that the answer is not wanted.
+    /// `watch` is asked each 32,768 bytes, or more often: `CalledOff` means that it said that the answer is not wanted.
     pub fn longest_end<W: Watch>(
         &mut self,
         line: &[u8],

@@ -7,10 +7,10 @@ pub trait Watch {
     /// `wants` has said that the answer is not wanted.
     ghost has_said_no: { Self → Type 0 };
 
-    /// Whether the answer is still wanted. After `false` the search is given up. It is asked each 65,536 bytes that a simulation
-    /// reads, and more often where a byte takes it many steps; and by crate `search` before each name that is matched, before each
-    /// document, at the next 64 KiB within one, before each pass over a line that looks for a column or a span, and before each
-    /// 64 KiB of text that is formed.
+    /// Whether the answer is still wanted. After `false` the search is given up. It is asked each 32,768 bytes that a simulation
+    /// reads, and more often where a byte takes it many steps; and by crate `search` before each name that is matched, before and
+    /// after a pattern is compiled, before each document, at the next 64 KiB or less within one, before each pass over a line that
+    /// looks for a column or a span, and before each 64 KiB of text that is formed.
     fn wants(&mut self) -> bool
         ensures { result ≡ false → has_said_no self.new };
 }
@@ -22,9 +22,6 @@ pub struct CalledOff;
 /// How many steps lie between two looks at most, where a byte does not take more. They take some tenths of a millisecond. No answer depends
 /// on it.
 const STEPS: usize = 32_768;
-
-/// How many bytes are read between two looks at most.
-const MOST_BYTES: usize = 65_536;
 
 /// When a simulation asks next whether the answer is still wanted, over all the lines that it reads.
 #[derive(Clone, Copy, Debug, PartialEq, Eq)]
@@ -39,7 +36,7 @@ impl Pace {
     /// The pace where a byte takes so many steps.
     pub(crate) fn of(steps: usize) -> Pace {
         let each = STEPS.checked_div(steps).unwrap_or(1);
-        let each = each.clamp(1, MOST_BYTES);
+        let each = each.max(1);
         Pace { each, left: each }
     }
 
