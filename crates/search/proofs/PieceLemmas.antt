@@ -7,7 +7,7 @@ use Rattle.lines.specs.Lines.{lines_of}
 use Rattle.engine.specs.FirstLine.{EndsLine, IsWholeLines, HasNoFeed, IsLineEnd}
 use Rattle.engine.proofs.LineLemmas.{lines-append}
 use Rattle.engine.proofs.CutLemmas.{lines_few}
-use Rattle.search.specs.Private.Pieces.{IsPiece, greatest_piece}
+use Rattle.search.specs.Private.Pieces.{IsPiece}
 use Rattle.views.specs.Found.{found, numbered}
 
 -- what is after the first `end` bytes of a text
@@ -36,26 +36,26 @@ module _ (text : List ℕ) (end : ℕ) (whole_lines : IsWholeLines (take end tex
 -- ---- the first piece of a text
 
 -- no line ends within so many bytes, nor up to where the line of the next one ends
-none_before : (text : List ℕ) (end : ℕ) → HasNoFeed text 0 greatest_piece → IsLineEnd text greatest_piece end → HasNoFeed text 0 end
-none_before text end none is k low below = elim (cases_lt k greatest_piece) [ inl first ↦ none k low first | inr later ↦ is.no_feed k later below ]
+none_before : (most : ℕ) (text : List ℕ) (end : ℕ) → HasNoFeed text 0 most → IsLineEnd text most end → HasNoFeed text 0 end
+none_before most text end none is k low below = elim (cases_lt k most) [ inl first ↦ none k low first | inr later ↦ is.no_feed k later below ]
 
 -- the first line has no line feed
-pub line_at_end : (text : List ℕ) → HasNoFeed text 0 greatest_piece → IsLineEnd text greatest_piece (length text) → IsPiece text (length text)
-line_at_end text none is = record {
+pub line_at_end : (most : ℕ) (text : List ℕ) → HasNoFeed text 0 most → IsLineEnd text most (length text) → IsPiece most text (length text)
+line_at_end most text none is = record {
   inside = omega arith;
   some = λ h. h;
   whole_lines = λ h. absurd (omega (arith, h));
-  few = λ _ k low below. none_before text (length text) none is k low (omega arith);
+  few = λ _ k low below. none_before most text (length text) none is k low (omega arith);
 }
 
 -- the first line has a line feed
-pub line_with_feed : (text : List ℕ) (end : ℕ) → HasNoFeed text 0 greatest_piece → IsLineEnd text greatest_piece end → end < length text
-    → IsPiece text (end + 1)
-line_with_feed text end none is inside = record {
+pub line_with_feed : (most : ℕ) (text : List ℕ) (end : ℕ) → HasNoFeed text 0 most → IsLineEnd text most end → end < length text
+    → IsPiece most text (end + 1)
+line_with_feed most text end none is inside = record {
   inside = omega arith;
   some = λ _. omega arith;
   whole_lines = λ _. inr (take end text, ap (λ n. take n text) (add-one end) ∙ (take-suc text end 0 inside ∙ ap (λ b. take end text ++ b ∷ []) (feed is.line_ends)));
-  few = λ _ k low below. none_before text end none is k low (omega arith);
+  few = λ _ k low below. none_before most text end none is k low (omega arith);
 }
   where
     feed : EndsLine (drop end text) → slice_index text end ≡ 10

@@ -1,7 +1,7 @@
 -- The ways of searching.
 use Rattle.std.proofs.Common.{◌≡◌, Option, Some, IfSome, subst}
 use Rattle.ere.specs.Tree.{Tree}
-use Rattle.engine.specs.Patterns.{IsLineFinderOf, IsCompiledForLines}
+use Rattle.engine.specs.Patterns.{IsLineFinderOf}
 use Rattle.matcher.specs.Steps.{IsQuick}
 use Rattle.simulation.specs.Simulations.{IsSimulationOf}
 use Rattle.engine.specs.declared.finding.Finder.{Finder}

@@ -129,10 +129,14 @@ fn gather_compiled<W: Watch>(
     if gathered.more {
         return Ok(());
     }
+    ask(watch)?;
     let compiled = compile_for_lines(alloc, &wanted.prepared.line.tree);
+    ask(watch)?;
     let mut way = way_by(alloc, &wanted.prepared.line.tree, &compiled)?;
     gathered.found_by = found_by(&way);
+    ask(watch)?;
     let shown = compile_shown(alloc, wanted);
+    ask(watch)?;
     let mut seeker = shown_seeker(alloc, wanted, &shown)?;
     gather_by(wanted, &mut way, &mut seeker, documents, gathered, watch)
 }

@@ -17,7 +17,7 @@ ghost use Rattle.search.specs.Private.Ways.{Finds, AreFew};
 use crate::piece::piece_end;
 use crate::unanswered::Unanswered;
 use crate::watch::{Watch, ask};
-use crate::way::{Way, passes};
+use crate::way::{Way, passes, piece_for};
 use engine::{Finder, lines_before};
 use index::{Body, SharedDocument};
 use matcher::is_quick;
@@ -153,7 +153,8 @@ fn scan_body<W: Watch>(
     let mut rest = body.as_bytes();
     let mut offset = 0;
     let mut line = 1;
-    let mut end = piece_end(rest);
+    let most_bytes = piece_for(way);
+    let mut end = piece_end(rest, most_bytes);
     while end < rest.len() {
         scan_piece(
             test,
@@ -173,7 +174,7 @@ fn scan_body<W: Watch>(
         line += lines_before(rest, end) as u32;
         offset += end as u32;
         rest = &rest[end..];
-        end = piece_end(rest);
+        end = piece_end(rest, most_bytes);
     }
     scan_piece(test, way, document, offset, line, rest, most, places, watch)?;
     Ok(())

@@ -56,7 +56,9 @@ fn with_names<W: Watch>(
         let mut way = Way::Matcher;
         return with_names_by(alloc, test, &mut way, documents, watch);
     }
+    ask(watch)?;
     let compiled = compile_for_lines(alloc, &test.tree);
+    ask(watch)?;
     let mut way = way_by(alloc, &test.tree, &compiled)?;
     with_names_by(alloc, test, &mut way, documents, watch)
 }

@@ -34,6 +34,19 @@ pub enum Way<'p> {
     Simulation(Simulation),
 }
 
+/// The greatest length of a piece of a body, in bytes, whatever the way.
+const MAX_PIECE: usize = 65_536;
+
+/// How many bytes of a body this way is to search at most before it is asked whether the answer is still wanted, unless a line is
+/// longer. That takes a few milliseconds at most.
+pub(crate) fn piece_for(way: &Way<'_>) -> usize {
+    match way {
+        Way::FromMatchToMatch(finder) => finder.longest().min(MAX_PIECE),
+        Way::Matcher => MAX_LINE,
+        Way::Simulation(_) => MAX_PIECE,
+    }
+}
+
 /// Which way it is.
 pub(crate) fn found_by(way: &Way<'_>) -> FoundBy
     ensures { result ≡ found_by way.now }
@@ -90,7 +103,7 @@ pub fn way_by<'p>(
 
 /// Whether the line passes the test, by this way for its tree. The line has no line feed.
 ///
-/// `watch` is asked each 64 KiB of a line that goes by a simulation: `CalledOff` means that it said that the answer is not
+/// `watch` is asked each 32,768 bytes of a line that goes by a simulation: `CalledOff` means that it said that the answer is not
 /// wanted. `OutOfMemory` means that there is no memory for a simulation, which a line that is too long for the way needs.
 pub fn passes<W: Watch>(
     alloc: Global,

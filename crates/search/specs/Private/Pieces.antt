@@ -2,14 +2,10 @@
 use Rattle.std.specs.Prelude.{ℕ, ◌-◌, ◌<◌, ◌≤◌, List, length, take}
 use Rattle.engine.specs.FirstLine.{IsWholeLines, HasNoFeed}
 
--- the greatest length of a piece of a body (this program's choice)
-abbrev pub greatest_piece : ℕ
-greatest_piece = 65536
-
 -- The text's first `end` bytes are whole lines, unless they are the whole text. They are some, unless it is empty.
--- They are not too many, unless the first line is: then they are that line.
-pub record IsPiece (text : List ℕ) (end : ℕ) : Type 0 where
+-- They are at most so many, unless the first line is longer: then they are that line.
+pub record IsPiece (most : ℕ) (text : List ℕ) (end : ℕ) : Type 0 where
   pub inside : end ≤ length text
   pub some : 0 < length text → 0 < end
   pub whole_lines : end < length text → IsWholeLines (take end text)
-  pub few : greatest_piece < end → HasNoFeed text 0 (end - 1)
+  pub few : most < end → HasNoFeed text 0 (end - 1)

@@ -18,7 +18,7 @@ invariant-loop-end g l = record {
   there : HasTextAt l.body l.offset l.rest;
   place : l.offset + length l.rest ≤ greatest_body;
   room : l.line + length l.rest ≤ 1 + greatest_body;
-  piece : IsPiece l.rest l.end;
+  piece : IsPiece l.most_bytes l.rest l.end;
 }
 
 abbrev pub decreases-loop-end : goal.decreases-loop-end
