@@ -8,7 +8,7 @@ use std::alloc::{AllocError, Global};
 /// that it takes a nanosecond for a byte.
 const LONGEST_IF_SIMPLE: usize = 5_242_880;
 
-/// The same for a tree with at most `FEW_LEAVES` or `FEW_CHOICES`. The engine's own tables of states are soon full then.
+/// The same for a tree with at most `FEW_LEAVES` or `FEW_CHOICES`. The engine soon has all the states that it needs then.
 const LONGEST: usize = 262_144;
 
 /// For any other tree, the length of the text times the number of leaves. The engine's tables may give up, and then it takes some
