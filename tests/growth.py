@@ -301,6 +301,18 @@ def removes_under_a_prefix(n):
     return after(puts + b"publish\n" * 3, b"removeunder f\npublish\n")
 
 
+def removes_under_the_prefix_of_the_first_half(n):
+    """Each document that goes has as many behind it as stay. Once that has moved much, the sets are filled anew."""
+    puts = b"".join(put(b"%s%04d" % (half, number), b"one abcd two defg") for half in (b"f", b"g") for number in range(n))
+    return after(puts + b"publish\n" * 3, b"removeunder f\npublish\n")
+
+
+def replacements_by_other_texts(n):
+    """Each document gets another text, so it leaves all its sets and comes into others."""
+    puts, others = (b"".join(put(b"f%04d" % number, text) for number in range(n)) for text in (b"one abcd two defg", b"uvwxyz and UVWXYZ"))
+    return after(puts + b"publish\n" * 3, others + b"publish\n")
+
+
 def removes_under_one_prefix_after_another(n):
     """As many commands as documents, each of which removes one: those with longer names went before."""
     return after(published(n), b"".join(b"removeunder f%d\n" % number for number in reversed(range(n))) + b"publish\n")
@@ -599,6 +611,8 @@ GROWTHS = [
     Row(removes_of_nothing, 1000),
     Row(removes_from_the_end, 500),
     Row(removes_under_a_prefix, 500),
+    Row(removes_under_the_prefix_of_the_first_half, 500),
+    Row(replacements_by_other_texts, 500),
     Row(removes_under_one_prefix_after_another, 500, BOTH, 5.5),
     Row(puts_and_removes, 500),
     Row(publishes_of_nothing, 1000),
