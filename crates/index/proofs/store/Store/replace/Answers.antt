@@ -87,8 +87,8 @@ replace_later-requires-clause-store c =
           (record { slots = kept.slots; few = kept.few; sets = kept.sets; counted = kept.counted; bytes = kept.bytes }),
     )
 
-pub returns-then-self-clause-store : goal.returns-then-self-clause-store
-returns-then-self-clause-store c = λ last kept.
+pub returns-then-is_too_much-clause-store : goal.returns-then-is_too_much-clause-store
+returns-then-is_too_much-clause-store c = λ last kept.
     c.replace_later.ensures.store last
     (c.start_over.ensures.store last
     (record { slots = kept.slots; few = kept.few; sets = kept.sets; counted = kept.counted; bytes = kept.bytes }))
