@@ -301,18 +301,6 @@ def removes_under_a_prefix(n):
     return after(puts + b"publish\n" * 3, b"removeunder f\npublish\n")
 
 
-def removes_under_the_prefix_of_the_first_half(n):
-    """Each document that goes has as many behind it as stay. Once that has moved much, the sets are filled anew."""
-    puts = b"".join(put(b"%s%04d" % (half, number), b"one abcd two defg") for half in (b"f", b"g") for number in range(n))
-    return after(puts + b"publish\n" * 3, b"removeunder f\npublish\n")
-
-
-def replacements_by_other_texts(n):
-    """Each document gets another text, so it leaves all its sets and comes into others."""
-    puts, others = (b"".join(put(b"f%04d" % number, text) for number in range(n)) for text in (b"one abcd two defg", b"uvwxyz and UVWXYZ"))
-    return after(puts + b"publish\n" * 3, others + b"publish\n")
-
-
 def removes_under_one_prefix_after_another(n):
     """As many commands as documents, each of which removes one: those with longer names went before."""
     return after(published(n), b"".join(b"removeunder f%d\n" % number for number in reversed(range(n))) + b"publish\n")
@@ -611,8 +599,6 @@ GROWTHS = [
     Row(removes_of_nothing, 1000),
     Row(removes_from_the_end, 500),
     Row(removes_under_a_prefix, 500),
-    Row(removes_under_the_prefix_of_the_first_half, 500),
-    Row(replacements_by_other_texts, 500),
     Row(removes_under_one_prefix_after_another, 500, BOTH, 5.5),
     Row(puts_and_removes, 500),
     Row(publishes_of_nothing, 1000),
@@ -811,6 +797,20 @@ def removes_under_a_prefix_and_single_removes(runs):
     none, singly, together, refused = (runs.instructions(SESSION, first + script + b"publish\n") for script in scripts)
     yield "instructions to remove 1,000 names by their beginning", together - none, 0, singly - none
     yield "instructions to remove one name and be refused 999 times", refused - none, 0, 2 * (singly - none)
+
+
+def much_that_goes_takes_no_longer_than_new_documents(runs):
+    """The sets are filled anew where the first half of the documents goes, of which each has the other half behind it, or where all get
+    other texts."""
+    texts = text_of_many_trigrams(30), text_of_many_trigrams(30).swapcase()
+    first, second, others = (
+        b"".join(put(b"%s%04d" % (half, number), text) for number in range(1_000))
+        for half, text in ((b"f", texts[0]), (b"g", texts[0]), (b"f", texts[1]))
+    )
+    made = runs.instructions(SESSION, first + second + b"publish\n" * 3)
+    for what, items in ("remove half of 2,000 documents", b"removeunder f\n"), ("replace half of 2,000 documents", others):
+        taken = runs.instructions(SESSION, first + second + b"publish\n" * 3 + items + b"publish\n") - made
+        yield f"instructions to {what}", taken, 0, made
 
 
 def pages_of_a_document_that_comes_and_goes(runs):
@@ -1270,6 +1270,7 @@ CHECKS = [
     trigrams_that_one_document_has,
     documents_that_are_gone,
     removes_under_a_prefix_and_single_removes,
+    much_that_goes_takes_no_longer_than_new_documents,
     pages_of_a_document_that_comes_and_goes,
     names_that_are_kept,
     room_under_a_prefix,

@@ -280,7 +280,7 @@ impl Index {
         ensures none { IsFalse result → (self.new ≡ self.old) × (has_under prefix.now self.old.documents ≡ false) }
     {
         let alloc = *self.store.slots.allocator();
-        let Some(number) = number_under(alloc, &self.numbers, prefix) else {
+        let Some(number) = number_under(alloc, &self.numbers, prefix, self.version) else {
             return false;
         };
         let Some(occupant) = occupant_at(&self.store.slots, number) else {
@@ -512,17 +512,23 @@ fn first_under(alloc: Global, prefix: &[u8]) -> Result<Option<Bound<Name>>, Allo
     }
 }
 
-/// The number of a document whose name begins with the prefix, if there is one. It is the last one of these in the order of names,
-/// unless memory runs out: documents mostly come in the order of their names, and the greatest number of a set is taken out at
-/// once, whereas behind a smaller one all others move.
-fn number_under(alloc: Global, numbers: &BTreeMap<Name, u32>, prefix: &Name) -> Option<u32>
+/// The number of a document whose name begins with the prefix, if there is one, where none is above `greatest`. It is that of the
+/// first or of the last one of these in the order of names, whichever is nearer to an end of the sets: documents mostly come in the
+/// order of their names, and a number near an end is found at once. If memory runs out, it is that of the first one.
+fn number_under(
+    alloc: Global,
+    numbers: &BTreeMap<Name, u32>,
+    prefix: &Name,
+    greatest: u32,
+) -> Option<u32>
     ensures some { IfSome result (λ number. (name : List ℕ) × (begins_with prefix.now name ≡ true)
         × (get (slice_cmp nat_cmp) numbers.now name ≡ Some number)) }
     ensures none { IfNone result ((name : List ℕ) → begins_with prefix.now name ≡ true → get (slice_cmp nat_cmp) numbers.now name ≡ None) }
 {
+    let first = first_number_under(numbers, prefix)?;
     match last_number_under(alloc, numbers, prefix) {
-        Some(number) => Some(number),
-        None => first_number_under(numbers, prefix),
+        Some(last) if greatest.saturating_sub(last) < first => Some(last),
+        _ => Some(first),
     }
 }
 

@@ -16,14 +16,18 @@ use posting::{Entry, Trigrams};
 use std::alloc::{AllocError, Global};
 use std::thread::Threads;
 
-/// What moves where a document is taken out is counted in bytes: those of its body, as they stand for its trigrams, times the
-/// documents behind it, and `MOVED_WITH_ONE` more. To put documents into empty sets takes about as long as to move `MOVED` times
-/// their bytes, where each counts `BYTES_OF_ONE` more. By measurement this holds for 1,000 documents of 16 bytes as for 20,000 of 1,500.
-const MOVED: usize = 128;
+/// What it takes to take a document out of its sets is counted in bytes: those of its body, as they stand for its trigrams, times
+/// the numbers that are passed in each set, of which there are as many as to its nearer end, and those behind it, which only move, and
+/// of which `MOVED` count as one. For each set `PASSED_FIRST` more count.
+const MOVED: usize = 64;
 
-const MOVED_WITH_ONE: usize = 1024;
+const PASSED_FIRST: usize = 80;
 
-const BYTES_OF_ONE: usize = 128;
+/// To put documents into empty sets takes about as long as to pass so many numbers in each of their sets, where each document counts as
+/// `BYTES_OF_ONE` bytes more. By measurement this holds for 2,000 documents of 300 bytes, and about for 20,000 of 1,500.
+const PASSED: usize = 40;
+
+const BYTES_OF_ONE: usize = 256;
 
 /// A change is large if a trigram comes or goes for each so many bytes of the body: a usual text has a trigram for each eight bytes.
 const BYTES_FOR_A_CHANGE: usize = 32;
@@ -41,8 +45,8 @@ pub(crate) struct Store {
     pub(crate) held_bytes: u64,
     /// Whether `fill` follows. No contract depends on it.
     pub(crate) expects_fill: bool,
-    /// What has moved since then, in bytes.
-    moved: usize,
+    /// What it has taken since then to take documents out of their sets, in bytes.
+    taken: usize,
 }
 
 impl Store {
@@ -57,7 +61,7 @@ impl Store {
             count: 0,
             held_bytes: 0,
             expects_fill: false,
-            moved: 0,
+            taken: 0,
         }
     }
 
@@ -80,12 +84,12 @@ impl Store {
         ensures documents { stored self.new ≡ without_number number (stored self.old) }
         ensures store { (last : ℕ) → IsStore last self.old → IsStore last self.new }
     {
-        self.count_moved(number);
+        self.count_taken(number);
         self.take_out_now(number);
     }
 
-    /// Counts what moves if the document with this number is taken out. If that is too much, and `fill` follows, the sets are emptied.
-    fn count_moved(&mut self, number: u32)
+    /// Counts what it takes to take out the document with this number. If it is too much, and `fill` follows, the sets are emptied.
+    fn count_taken(&mut self, number: u32)
         requires { (last : ℕ) × IsStore last self.old }
         ensures documents { stored self.new ≡ stored self.old }
         ensures store { (last : ℕ) → IsStore last self.old → IsStore last self.new }
@@ -94,7 +98,7 @@ impl Store {
             return;
         }
         let bytes = self.bytes_of(number);
-        self.moved = self.moved.saturating_add(self.moved_by(number, bytes));
+        self.taken = self.taken.saturating_add(self.work_of(number, bytes));
         if self.is_too_much() {
             self.start_over();
         }
@@ -125,23 +129,27 @@ impl Store {
         }
     }
 
-    /// What moves, in bytes, if the document with this number, of so many bytes, is taken out.
-    fn moved_by(&self, number: u32, bytes: usize) -> usize {
-        let last = match self.slots.last() {
-            Some(slot) => slot.number,
-            None => 0,
+    /// What it takes to take out the document with this number, of so many bytes.
+    fn work_of(&self, number: u32, bytes: usize) -> usize {
+        let (first, last) = match (self.slots.first(), self.slots.last()) {
+            (Some(first), Some(last)) => (first.number, last.number),
+            _ => (0, 0),
         };
         let behind = (last.saturating_sub(number) as usize).min(self.count);
-        behind.saturating_add(MOVED_WITH_ONE).saturating_mul(bytes)
+        let passed = behind.min(number.saturating_sub(first) as usize);
+        let counted = passed
+            .saturating_add(behind / MOVED)
+            .saturating_add(PASSED_FIRST);
+        counted.saturating_mul(bytes)
     }
 
-    /// Whether as much has moved as to put all documents into empty sets.
+    /// Whether it has taken about as long as to put all documents into empty sets.
     fn is_too_much(&self) -> bool {
         let bytes = self
             .count
             .saturating_mul(BYTES_OF_ONE)
             .saturating_add(self.held_bytes as usize);
-        self.moved / MOVED > bytes
+        self.taken / PASSED > bytes
     }
 
     /// Empties the sets, and has all documents wait for `fill`. The documents stay as they are. It needs no memory.
@@ -152,7 +160,7 @@ impl Store {
     {
         let alloc = *self.slots.allocator();
         self.sets.start_over(alloc);
-        self.moved = 0;
+        self.taken = 0;
     }
 
     /// Puts in a document with this number, for which there is room.
@@ -200,7 +208,7 @@ impl Store {
         ensures store { (last : ℕ) → IsStore last self.old → IsStore last self.new }
     {
         self.expects_fill = false;
-        self.moved = 0;
+        self.taken = 0;
         let Some(waiting) = self.sets.waiting else {
             return Ok(());
         };
@@ -256,17 +264,17 @@ impl Store {
         }
     }
 
-    /// What has moved, with what moves if the document with this number is changed so, and has so many bytes then: as much as if it was
-    /// taken out, where the change is large.
-    fn moved_with(&self, number: u32, change: &Change, bytes: usize) -> usize {
+    /// What it has taken, with what it takes to change the document with this number so, which has so many bytes then: as much as to
+    /// take it out, where the change is large.
+    fn taken_with(&self, number: u32, change: &Change, bytes: usize) -> usize {
         if !self.expects_fill || !change.has_more(bytes / BYTES_FOR_A_CHANGE) {
-            return self.moved;
+            return self.taken;
         }
-        self.moved.saturating_add(self.moved_by(number, bytes))
+        self.taken.saturating_add(self.work_of(number, bytes))
     }
 
-    /// Replaces the body of the document with this number, for which there is room. Where `fill` follows, and too much has moved, as
-    /// `take_out` says, all documents wait.
+    /// Replaces the body of the document with this number, for which there is room. Where `fill` follows, and
+    /// too much was taken out, as `take_out` says, all documents wait.
     pub(crate) fn replace(&mut self, number: u32, change: &Change, held: Held)
         requires store { (last : ℕ) × IsStore last self.old }
         requires room { IsReadyFor self.old number held change.now }
@@ -274,7 +282,7 @@ impl Store {
         ensures documents { stored self.new ≡ map (with_body_at number held) (stored self.old) }
         ensures store { (last : ℕ) → IsStore last self.old → IsStore last self.new }
     {
-        self.moved = self.moved_with(number, change, held.body().as_bytes().len());
+        self.taken = self.taken_with(number, change, held.body().as_bytes().len());
         if self.is_too_much() {
             self.start_over();
             self.replace_later(number, held);

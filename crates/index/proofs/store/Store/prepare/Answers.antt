@@ -13,7 +13,7 @@ use Rattle.index.proofs.store.Store.prepare.Goals as goal
 pub returns-clause-ok : goal.returns-clause-ok
 returns-clause-ok c =
     let old = c.args.self.now in
-    let new : Store = record { slots = old.slots; sets = c.prepare.new.self; count = old.count; held_bytes = old.held_bytes; expects_fill = old.expects_fill; moved = old.moved } in
+    let new : Store = record { slots = old.slots; sets = c.prepare.new.self; count = old.count; held_bytes = old.held_bytes; expects_fill = old.expects_fill; taken = old.taken } in
     let occupant = c.in-Some.occupant.now in
     let at : document_at c.args.number (stored old) ≡ Some (occupant.name, occupant.held) =
     ap (λ slots. document_at c.args.number (documents_in slots)) (sym c.deref.ensures.value) ∙ sym c.in-Some.ensures in

@@ -1,4 +1,4 @@
-use Rattle.index.proofs.store.Store.count_moved.Goals as goal
+use Rattle.index.proofs.store.Store.count_taken.Goals as goal
 
 pub returns-then-is_too_much-clause-store : goal.returns-then-is_too_much-clause-store
 returns-then-is_too_much-clause-store c = λ last kept.
