@@ -296,7 +296,7 @@ def removes_from_the_end(n):
 
 
 def removes_under_a_prefix(n):
-    """The names rise with their numbers, and the last name goes first, so each document goes from the end of its sets."""
+    """Where all documents are under the prefix, each goes from an end of its sets."""
     puts = b"".join(put(b"f%04d" % number, b"one abcd two defg") for number in range(n))
     return after(puts + b"publish\n" * 3, b"removeunder f\npublish\n")
 
@@ -800,17 +800,18 @@ def removes_under_a_prefix_and_single_removes(runs):
 
 
 def much_that_goes_takes_no_longer_than_new_documents(runs):
-    """The sets are filled anew where the first half of the documents goes, of which each has the other half behind it, or where all get
-    other texts."""
+    """The sets are filled anew where much goes from their middle, or gets other texts there. Else each document has half of the others before
+    or behind it, which are passed in each of its sets."""
     texts = text_of_many_trigrams(30), text_of_many_trigrams(30).swapcase()
-    first, second, others = (
-        b"".join(put(b"%s%04d" % (half, number), text) for number in range(1_000))
-        for half, text in ((b"f", texts[0]), (b"g", texts[0]), (b"f", texts[1]))
+    first, second, third, others = (
+        b"".join(put(b"%s%04d" % (part, number), text) for number in range(1_000))
+        for part, text in ((b"e", texts[0]), (b"f", texts[0]), (b"g", texts[0]), (b"f", texts[1]))
     )
-    made = runs.instructions(SESSION, first + second + b"publish\n" * 3)
-    for what, items in ("remove half of 2,000 documents", b"removeunder f\n"), ("replace half of 2,000 documents", others):
-        taken = runs.instructions(SESSION, first + second + b"publish\n" * 3 + items + b"publish\n") - made
-        yield f"instructions to {what}", taken, 0, made
+    base = first + second + third + b"publish\n" * 3
+    made = runs.instructions(SESSION, base)
+    for what, items in ("remove the middle third of 3,000 documents", b"removeunder f\n"), ("replace it", others):
+        taken = runs.instructions(SESSION, base + items + b"publish\n") - made
+        yield f"instructions to {what}", taken, 0, made * 3 // 2
 
 
 def pages_of_a_document_that_comes_and_goes(runs):
