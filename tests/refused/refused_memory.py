@@ -3,7 +3,7 @@
 what it answers.
 
 The script puts a small document and one of 19 KB, and searches them line by line, by the compiled pattern, with stars inside
-stars, and with a pattern that is too large to be compiled. With the Nth request refused, each search's answer is the same or
+stars, and with a pattern that is too large to be compiled, and under some prefixes. With the Nth request refused, each search's answer is the same or
 `refused: out of memory`, each other line does its work or is refused with the same words, or the program says that memory ran
 out. What it has written then is the beginning of such a text. At most one item is refused. If it is a put or the publish, the
 answers are those to the script without it. The judge (judge/transcripts.py) knows where the entries may come. The library of
@@ -31,6 +31,8 @@ from judge import transcripts  # noqa: E402
 from refused import counting  # noqa: E402
 
 SEARCHES = [b"xy|ca", b"line 44[0-3] .* 0x[0-3]{2}", b"^$", b"((a*|b)*|c)*d$|^line (0*)*7", b"e 44[0-2]|z$", b".{211}.{212}.{211}|line 7 of the body, int x"]
+# Some begin no name, and some are under others.
+PREFIXES = b"".join(b"--under %s%d --not-under %d " % (name, number, number) for name in (b"a", b"b/") for number in range(9))
 OUT_OF_MEMORY = re.compile(rb"^(search|line) (\d+) refused: out of memory$", re.MULTILINE)
 NO_MEMORY = b"tsearch: out of memory\n"
 # The words that the program is started with, and what they mean to the judge.
@@ -44,7 +46,8 @@ WAYS = {
 def items_of_script():
     small = b"ab\ncad\n\nxyz"
     large = b"".join(b"line %d of the body, int x = 0x%08x;\n" % (i, i * 7919) for i in range(450))
-    return [put(b"a", small), put(b"b", large), b"publish\n"] + [b"search " + pattern + b"\n" for pattern in SEARCHES]
+    finds = [b"find %s--under a -- %s\n" % (PREFIXES, pattern) for pattern in SEARCHES[:2]]
+    return [put(b"a", small), put(b"b", large), b"publish\n"] + [b"search " + pattern + b"\n" for pattern in SEARCHES] + finds
 
 
 ITEMS = items_of_script()

@@ -10,6 +10,7 @@ pub mod PieceLemmas
 pub mod ApplyLemmas
 pub mod UnderLemmas
 pub mod OrderLemmas
+mod PrefixLemmas
 mod ChosenLemmas
 pub mod IndexLemmas
 pub mod RemovedLemmas

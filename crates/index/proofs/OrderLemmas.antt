@@ -23,8 +23,9 @@ use Rattle.std.proofs.lemmas.Option.{slice_get_within, get_or_from_slice_get, so
 use Rattle.std.specs.Cmp.{both_ways}
 use Rattle.std.proofs.Math.Bool.{or-true}
 use Rattle.index.specs.declared.sets.Sets.{Sets}
-use Rattle.index.specs.Documents.{Document, document, document_at, number_of, meets, is_chosen, is_under, IsInNameOrder, RisesByName}
-use Rattle.index.specs.Text.{IsName, begins_with}
+use Rattle.index.specs.Documents.{Document, document, document_at, number_of, meets, is_picked, is_under, IsInNameOrder, RisesByName}
+use Rattle.index.specs.Text.{IsName}
+use Rattle.prefixes.specs.Under.{begins_with}
 use Rattle.index.proofs.UnderLemmas.{picked, picked-first, filter_after}
 use Rattle.index.specs.Private.Sets.{AreSetsOf, trigrams_shown}
 use Rattle.index.specs.Private.Chosen.{numbered_document, document_numbered, documents_numbered, IsFirstUnder}
@@ -217,6 +218,22 @@ documents_numbered-numbers ds (d ∷ chosen) numbered each =
     ap (numbered_document d.number) (document_at-Contains ds numbered d (each d (Contains-head d chosen))) in
     rw (here, documents_numbered-numbers ds chosen numbered (λ x h. each x (Contains-tail d chosen x h))) refl
 
+-- the documents that pass a test, in the order of their names
+pub some_by_name : (ds : List Document) → Numbered ds → Named ds → (numbers : BTreeMap (List ℕ) ℕ)
+    → ((name : List ℕ) → get (slice_cmp nat_cmp) numbers name ≡ number_of name ds) → IsOrdered (slice_cmp nat_cmp) numbers
+    → (p : Document → Bool) → (ordered : List Document) × IsInNameOrder (filter p ds) ordered
+some_by_name ds numbered named numbers kept ordered p =
+    let all = all_by_name ds numbered named numbers kept ordered in (
+      filter p all.0,
+      record {
+        rises = rises-filter p all.0 all.1.rises;
+        same = λ d. (
+          λ h. (let at = filter-Contains p all.0 d h in Contains-filter p ds d ((all.1.same d).0 at.0) at.1),
+          λ h. (let at = filter-Contains p ds d h in Contains-filter p all.0 d ((all.1.same d).1 at.0) at.1),
+        );
+      },
+    )
+
 -- the documents with a number that passes the test and a name that begins with the text, chosen from all documents in the
 -- order of their names
 pub many_in_order : (ds : List Document) → Numbered ds → Named ds → (test : ℕ → Bool) (text : List ℕ) (numbers : BTreeMap (List ℕ) ℕ)
@@ -259,7 +276,7 @@ many_taken ds numbered named test text numbers kept ordered first is from are ta
 
 -- no document is chosen where no name begins with the text
 pub none_in_order : (numbers text : List ℕ) (ds : List Document) → All (λ d. IsName d.name) ds
-    → ((name : List ℕ) → IsName name → begins_with text name ≡ false) → IsInNameOrder (filter (is_chosen numbers text) ds) []
+    → ((name : List ℕ) → IsName name → begins_with text name ≡ false) → IsInNameOrder (filter (is_picked numbers text) ds) []
 unfolding IsStrictlySortedBy
 none_in_order numbers text ds names none = subst (λ xs. IsInNameOrder xs []) (sym (nothing ds names)) (record {
   rises = tt;
@@ -270,12 +287,12 @@ none_in_order numbers text ds names none = subst (λ xs. IsInNameOrder xs []) (s
     and_no true = refl
     and_no false = refl
 
-    nothing : (ds : List Document) → All (λ d. IsName d.name) ds → filter (is_chosen numbers text) ds ≡ []
+    nothing : (ds : List Document) → All (λ d. IsName d.name) ds → filter (is_picked numbers text) ds ≡ []
     nothing [] names = refl
     nothing (d ∷ ds) names =
         let other : begins_with text d.name ≡ false = none d.name (names 0 d (omega arith)) in
-        let out : is_chosen numbers text d ≡ false = ap (λ t. has numbers d.number && t) other ∙ and_no (has numbers d.number) in
-        ap (λ t. cond t (d ∷ filter (is_chosen numbers text) ds) (filter (is_chosen numbers text) ds)) out
+        let out : is_picked numbers text d ≡ false = ap (λ t. has numbers d.number && t) other ∙ and_no (has numbers d.number) in
+        ap (λ t. cond t (d ∷ filter (is_picked numbers text) ds) (filter (is_picked numbers text) ds)) out
         ∙ nothing ds (λ k x inside. names (suc k) x (omega arith))
 
 -- ---- candidates

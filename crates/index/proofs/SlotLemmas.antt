@@ -64,6 +64,37 @@ others_apart last number slots place slot rises point read apart =
         let same : (get_or slots k slot).number ≡ (get_or slots k d).number = ap (λ s. s.number) one in
         λ e. omega arith
 
+-- ---- no slot has a number between two
+
+pub others_between : (last first number : ℕ) (slots : List Slot) (place : ℕ) (slot : Slot) → RiseTo last slots
+    → IsPartitionPoint (λ s. nat_lt s.number first ≡ true) (λ s. nat_lt s.number first ≡ false) slots place
+    → slot ≡ get_or slots place slot → first ≤ number → number < slot.number → Others number slots
+others_between last first number slots place slot rises point read from to =
+    λ k d inside. ⊎_elim (λ before. before_is k d before) (λ after. after_is k d after inside) (cases_lt k place)
+  where
+    below : (n : ℕ) → nat_lt n first ≡ true → n < first
+    below n less = grind (arith, nat_tests)
+
+    before_is : (k : ℕ) (d : Slot) → k < place → (get_or slots k d).number ≢ number
+    before_is k d before = let less = below (get_or slots k d).number (point.0 k d (omega arith) before) in λ e. omega arith
+
+    after_is : (k : ℕ) (d : Slot) → place ≤ k → k < length slots → (get_or slots k d).number ≢ number
+    after_is k d after inside =
+        let is : slot.number ≡ (get_or slots place slot).number = ap (λ s. s.number) read in
+        let rest = non_decreasing last slots rises place k slot after inside in
+        let one : get_or slots k slot ≡ get_or slots k d = get_or_default slots k slot d inside in
+        let same : (get_or slots k slot).number ≡ (get_or slots k d).number = ap (λ s. s.number) one in
+        λ e. omega arith
+
+pub others_behind : (first number : ℕ) (slots : List Slot) (place : ℕ)
+    → IsPartitionPoint (λ s. nat_lt s.number first ≡ true) (λ s. nat_lt s.number first ≡ false) slots place → place ≡ length slots
+    → first ≤ number → Others number slots
+others_behind first number slots place point past from =
+    λ k d inside. (let less = below (get_or slots k d).number (point.0 k d (omega arith) (omega arith)) in λ e. omega arith)
+  where
+    below : (n : ℕ) → nat_lt n first ≡ true → n < first
+    below n less = grind (arith, nat_tests)
+
 document_at-skip : (number other : ℕ) (occupant : Option Occupant) (ds : List Document) → other ≢ number
     → document_at number (documents_of_slot other occupant ++ ds) ≡ document_at number ds
 unfolding document_at

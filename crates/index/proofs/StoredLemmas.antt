@@ -18,9 +18,10 @@ use Rattle.lines.specs.Lines.{lines_of}
 use Rattle.query.specs.Trigrams.{ListsTrigrams, trigrams_of_body}
 use Rattle.posting.specs.ListValue.{has, without}
 use Rattle.posting.specs.declared.filling.Entry.{Entry}
-use Rattle.posting.specs.Postings.{holds, is_listed, IsPrepared, IsAbsent, AllDiffer}
+use Rattle.posting.specs.Postings.{holds, SameSets, is_listed, IsPrepared, IsAbsent, AllDiffer}
 use Rattle.posting.proofs.Members.{has_at, All-has}
 use Rattle.posting.proofs.SetLemmas.{has-filter}
+use Rattle.posting.proofs.Fillings.{or_left, or_right}
 use Rattle.index.specs.declared.slots.Slot.{Slot}
 use Rattle.index.specs.declared.slots.Occupant.{Occupant}
 use Rattle.index.specs.declared.sets.Sets.{Sets}
@@ -28,9 +29,9 @@ use Rattle.index.specs.declared.sets.Change.{Change}
 use Rattle.index.specs.declared.store.Store.{Store}
 use Rattle.index.specs.Documents.{Document, document, document_at}
 use Rattle.index.specs.State.{body_bytes}
-use Rattle.index.specs.Private.Slots.{documents_of_slot, documents_in, numbers_in, RiseTo, without_number, with_body_at}
-use Rattle.index.specs.Private.Sets.{IsNew, IsChange, trigrams_shown, trigrams_at, is_whole, is_waiting, AreSetsOf}
-use Rattle.index.specs.Private.Store.{stored, IsReadyFor}
+use Rattle.index.specs.Private.Slots.{documents_of_slot, documents_in, numbers_in, RiseTo, FewAreEmpty, without_number, with_body_at}
+use Rattle.index.specs.Private.Sets.{IsNew, IsChange, trigrams_shown, trigrams_at, is_whole, is_left, NoneIsLeft, is_waiting, AreSetsOf}
+use Rattle.index.specs.Private.Store.{stored, IsStore, IsReadyFor}
 use Rattle.index.proofs.DocumentLemmas.{numbers-replaced}
 use Rattle.index.proofs.RisingLemmas.{below_later}
 use Rattle.index.proofs.SlotLemmas.{Rising, rising, with_body_at-absent, documents_in-push}
@@ -111,7 +112,7 @@ document_at-append number (x ∷ xs) ys = go (x.number == number) (document_at-a
     go true e = refl
     go false e = e
 
-document_at-kept : (gone number : ℕ) (ds : List Document) → document_at number (without_number gone ds) ≡ cond (number == gone) None (document_at number ds)
+pub document_at-kept : (gone number : ℕ) (ds : List Document) → document_at number (without_number gone ds) ≡ cond (number == gone) None (document_at number ds)
 unfolding document_at
 document_at-kept gone number [] = none (number == gone)
   where
@@ -165,7 +166,7 @@ and_none true true = refl
 and_none true false = refl
 and_none false b = refl
 
-numbers-kept : (gone : ℕ) (ds : List Document) → map (λ d. d.number) (without_number gone ds) ≡ without gone (map (λ d. d.number) ds)
+pub numbers-kept : (gone : ℕ) (ds : List Document) → map (λ d. d.number) (without_number gone ds) ≡ without gone (map (λ d. d.number) ds)
 numbers-kept gone [] = refl
 numbers-kept gone (d ∷ ds) = go (not (d.number == gone)) (numbers-kept gone ds)
   where
@@ -199,8 +200,48 @@ followed : (ds ds' : List Document) (old new : Sets) (f : ℕ → ℕ → Bool �
 followed ds ds' old new f kept waiting rises sets moved live = record {
   live = live;
   postings = λ t n whole. sets t n ∙ ap (f t n) (kept.postings t n (rw waiting at whole)) ∙ moved t n;
-  few = λ t n held. sym (moved t n) ∙ rises t n (holds old.postings t n) (trigrams_at ds n t) (kept.few t n) (sym (sets t n) ∙ held);
+  few = λ t n held. few t n (is_left new.waiting t n) refl held;
+  both = λ t n left there.
+      sets t n ∙ rises t n (trigrams_at ds n t) (holds old.postings t n) (kept.both t n (rw waiting at left)) (moved t n ∙ there);
 }
+  where
+    first_one : (a b : Bool) → b ≡ false → (a || b) ≡ true → a ≡ true
+    first_one true b e either = refl
+    first_one false b e either = absurd (false≢true (sym e ∙ either))
+
+    few : (t n : ℕ) (left : Bool) → is_left new.waiting t n ≡ left → holds new.postings t n ≡ true
+        → (trigrams_at ds' n t || is_left new.waiting t n) ≡ true
+    few t n true e held = or_right (trigrams_at ds' n t) (is_left new.waiting t n) e
+    few t n false e held =
+        or_left (trigrams_at ds' n t) (is_left new.waiting t n)
+        (sym (moved t n)
+        ∙ rises t n (holds old.postings t n) (trigrams_at ds n t)
+        (λ was. first_one (trigrams_at ds n t) (is_left old.waiting t n) (rw waiting at e) (kept.few t n was)) (sym (sets t n) ∙ held))
+
+-- the sets after room is made
+pub AreSetsOf-same : (ds : List Document) (old new : Sets) → AreSetsOf ds old → new.live.members ≡ old.live.members → SameSets old.postings new.postings
+    → new.waiting ≡ old.waiting → AreSetsOf ds new
+AreSetsOf-same ds old new kept live sets waiting =
+    followed ds ds old new (λ t n b. b) kept waiting (λ t n a b up is. up is) sets (λ t n. refl) (live ∙ kept.live)
+
+pub IsStore-room : (last : ℕ) (old new : Store) → IsStore last old → new.slots.items ≡ old.slots.items → AreSetsOf (stored old) new.sets
+    → new.count ≡ old.count → new.held_bytes ≡ old.held_bytes → IsStore last new
+IsStore-room last old new kept items sets count bytes = record {
+  slots = subst (RiseTo last) (sym items) kept.slots;
+  few = subst FewAreEmpty (sym items) kept.few;
+  sets = subst (λ xs. AreSetsOf (documents_in xs) new.sets) (sym items) sets;
+  counted = count ∙ (kept.counted ∙ ap (λ xs. length (documents_in xs)) (sym items));
+  bytes = bytes ∙ (kept.bytes ∙ ap (λ xs. body_bytes (documents_in xs)) (sym items));
+}
+
+-- where no number is left in sets of a body that its document no longer has
+pub held_shown : (ds : List Document) (sets : Sets) → AreSetsOf ds sets → NoneIsLeft sets.waiting → (t n : ℕ) → holds sets.postings t n ≡ true
+    → trigrams_at ds n t ≡ true
+held_shown ds sets kept none t n held = go (trigrams_at ds n t) (is_left sets.waiting t n) (none t n) (kept.few t n held)
+  where
+    go : (a b : Bool) → b ≡ false → (a || b) ≡ true → a ≡ true
+    go true b e either = refl
+    go false b e either = absurd (false≢true (sym e ∙ either))
 
 -- the sets after a document is taken out
 pub AreSetsOf-take : (ds : List Document) (gone : ℕ) (name body trigrams : List ℕ) (old new : Sets) → AreSetsOf ds old
@@ -257,20 +298,20 @@ all_below ds last number sets kept low above =
     (All-map (λ m. m < number) (λ d. d.number) ds (λ k d inside. (let under = low k d inside in omega arith)))
 
 -- a number above all others is new to the sets
-pub IsNew-above : (ds : List Document) (last number : ℕ) (body trigrams : List ℕ) (sets : Sets) → AreSetsOf ds sets
+pub IsNew-above : (ds : List Document) (last number : ℕ) (body trigrams : List ℕ) (sets : Sets) → AreSetsOf ds sets → NoneIsLeft sets.waiting
     → All (λ d. d.number ≤ last) ds → last < number → ListsTrigrams body trigrams → IsNew sets number trigrams
-IsNew-above ds last number body trigrams sets kept low above lists = record {
+IsNew-above ds last number body trigrams sets kept none low above lists = record {
   live = all_below ds last number sets kept low above;
   postings =
       λ trigram there.
       not_held (holds sets.postings trigram number)
-      (λ held. false≢true (sym (ap (λ found. trigrams_shown found trigram) (document_at-above number last ds low above)) ∙ kept.few trigram number held));
+      (λ held. false≢true (sym (ap (λ found. trigrams_shown found trigram) (document_at-above number last ds low above)) ∙ held_shown ds sets kept none trigram number held));
   once = all_differ trigrams lists.rising;
 }
 
 -- ---- another body
 
-document_at-replaced : (number : ℕ) (body : List ℕ) (ds : List Document) (n : ℕ)
+pub document_at-replaced : (number : ℕ) (body : List ℕ) (ds : List Document) (n : ℕ)
     → document_at n (map (with_body_at number body) ds) ≡ cond (n == number) (option_map (λ d. (d.0, body)) (document_at n ds)) (document_at n ds)
 unfolding document_at
 document_at-replaced number body [] n = none (n == number)
@@ -297,11 +338,21 @@ document_at-replaced number body (d ∷ ds) n = go (d.number == number) refl (d.
     go true e false same deeper = rw (e, same) deeper
     go false e false same deeper = rw (e, same) deeper
 
+-- a body that was found is that of a document
+pub found_body : (found : Option (List ℕ × List ℕ)) (body : List ℕ) → Some body ≡ option_map (λ d. d.1) found
+    → (name : List ℕ) × (found ≡ Some (name, body))
+found_body None body e = cc
+found_body (Some d) body e = let same : body ≡ d.1 = cc in (d.0, ap (λ b. Some (d.0, b)) (sym same))
+
+pub not_lost : (found : Option (List ℕ × List ℕ)) → None ≡ option_map (λ d. d.1) found → IsSome found → ⊥
+not_lost None e there = false≢true there
+not_lost (Some d) e there = cc
+
 -- the change from the trigrams that a document has to those of another body
-pub IsReadyFor-change : (store : Store) (number : ℕ) (name old body old_trigrams new_trigrams : List ℕ) (change : Change)
+pub IsReadyFor-change : (store : Store) (number : ℕ) (name old body old_trigrams new_trigrams : List ℕ) (change : Change) → NoneIsLeft store.sets.waiting
     → document_at number (stored store) ≡ Some (name, old) → ListsTrigrams old old_trigrams → ListsTrigrams body new_trigrams
     → IsChange old_trigrams new_trigrams change → IsPrepared store.sets.postings number change.fresh → IsReadyFor store number body change
-IsReadyFor-change store number name old body old_trigrams new_trigrams change at was is h room = record {
+IsReadyFor-change store number name old body old_trigrams new_trigrams change none at was is h room = record {
   there = subst IsSome (sym at) refl;
   fresh =
       λ t.
@@ -319,6 +370,7 @@ IsReadyFor-change store number name old body old_trigrams new_trigrams change at
       (all_differ (filter (λ n. not (has old_trigrams n)) new_trigrams)
       (IsStrictlyIncreasing-filter (λ n. not (has old_trigrams n)) new_trigrams is.rising));
   room = room;
+  none_left = none;
 }
   where
     old_at : (t : ℕ) → has old_trigrams t ≡ trigrams_at (stored store) number t
@@ -475,12 +527,12 @@ RiseTo-none = record { rise = λ k inside. absurd (omega arith); below = All-nil
 -- ---- documents that wait
 
 -- the sets after a document is put in whose trigrams wait
-pub AreSetsOf-later : (ds : List Document) (number : ℕ) (name body : List ℕ) (old new : Sets) → AreSetsOf ds old
-    → new.live.members ≡ old.live.members ++ number ∷ [] → new.postings ≡ old.postings
+pub AreSetsOf-later : (ds : List Document) (number : ℕ) (name body : List ℕ) (old new : Sets) → AreSetsOf ds old → NoneIsLeft old.waiting
+    → NoneIsLeft new.waiting → new.live.members ≡ old.live.members ++ number ∷ [] → new.postings ≡ old.postings
     → ((t n : ℕ) → is_whole new.waiting t n ≡ true → (is_whole old.waiting t n ≡ true) × ((number == n) ≡ false))
     → AreSetsOf (ds ++ document number name body ∷ []) new
 unfolding document_at or_else
-AreSetsOf-later ds number name body old new kept live same waiting = record {
+AreSetsOf-later ds number name body old new kept none none_now live same waiting = record {
   live = live ∙ (ap (λ xs. xs ++ number ∷ []) kept.live ∙ sym (map-append (λ d. d.number) ds (document number name body ∷ [])));
   postings =
       λ t n whole.
@@ -490,8 +542,11 @@ AreSetsOf-later ds number name body old new kept live same waiting = record {
       ∙ ap (λ found. trigrams_shown found t) (sym (document_at-append n ds (document number name body ∷ [])))));
   few =
       λ t n held.
-      ap (λ found. trigrams_shown found t) (document_at-append n ds (document number name body ∷ []))
-      ∙ stays t (document_at n ds) (document_at n (document number name body ∷ [])) (kept.few t n (sym (ap (λ sets. holds sets t n) same) ∙ held));
+      or_left (trigrams_at (ds ++ document number name body ∷ []) n t) (is_left new.waiting t n)
+      (ap (λ found. trigrams_shown found t) (document_at-append n ds (document number name body ∷ []))
+      ∙ stays t (document_at n ds) (document_at n (document number name body ∷ []))
+      (held_shown ds old kept none t n (sym (ap (λ sets. holds sets t n) same) ∙ held)));
+  both = λ t n left there. absurd (false≢true (sym (none_now t n) ∙ left));
 }
   where
     passed : (t n : ℕ) (found : Option (List ℕ × List ℕ)) (same : Bool) → same ≡ false
@@ -505,11 +560,11 @@ AreSetsOf-later ds number name body old new kept live same waiting = record {
     stays t None other is = absurd (false≢true is)
 
 -- none of the fresh trigrams' sets has the number
-pub fresh_are_absent : (ds : List Document) (number : ℕ) (body fresh : List ℕ) (sets : Sets) → AreSetsOf ds sets
+pub fresh_are_absent : (ds : List Document) (number : ℕ) (body fresh : List ℕ) (sets : Sets) → AreSetsOf ds sets → NoneIsLeft sets.waiting
     → ((t : ℕ) → has fresh t ≡ (trigrams_of_body body t && not (trigrams_at ds number t))) → IsAbsent sets.postings fresh number
-fresh_are_absent ds number body fresh sets kept fresh_is t there =
+fresh_are_absent ds number body fresh sets kept none_left fresh_is t there =
     not_held (holds sets.postings t number)
-    (λ held. false≢true (sym (none (trigrams_of_body body t)) ∙ (ap (λ b. trigrams_of_body body t && not b) (sym (kept.few t number held)) ∙ sym (fresh_is t) ∙ there)))
+    (λ held. false≢true (sym (none (trigrams_of_body body t)) ∙ (ap (λ b. trigrams_of_body body t && not b) (sym (held_shown ds sets kept none_left t number held)) ∙ sym (fresh_is t) ∙ there)))
   where
     none : (b : Bool) → (b && not true) ≡ false
     none true = refl
@@ -542,9 +597,6 @@ pub entry_of : (first number : ℕ) (name body trigrams : List ℕ) → first �
 entry_of first number name body trigrams high lists t n =
     let not_low : nat_lt number first ≡ false = grind (arith, nat_tests) in
     rw (not_low, listed body trigrams lists t) (sym (or-false (trigrams_of_body body t && number == n)))
-
-pub no_entry : (first number : ℕ) (name body : List ℕ) → number < first → (t n : ℕ) → is_waiting first (document number name body ∷ []) t n ≡ false
-no_entry first number name body low t n = let is_low : nat_lt number first ≡ true = grind (arith, nat_tests) in rw is_low refl
 
 -- of documents with different numbers those wait that have the number and the trigram
 pub waiting_are : (first : ℕ) (ds : List Document) → Numbered ds → (t n : ℕ) → is_waiting first ds t n ≡ (not (nat_lt n first) && trigrams_at ds n t)
@@ -581,16 +633,17 @@ ok_holds (Err e) p done = absurd (false≢true done)
 
 -- the sets after some of the documents that wait, or all, are put into them
 pub AreSetsOf-filled : {T E : Type 0} (ds : List Document) → Numbered ds → (first : ℕ) (entries : List Entry) (old new : Sets) (r : Result T E) → AreSetsOf ds old
-    → ((t n : ℕ) → nat_lt n first ≡ true → is_whole old.waiting t n ≡ true) → ((t n : ℕ) → is_listed entries t n ≡ is_waiting first ds t n)
+    → NoneIsLeft old.waiting → NoneIsLeft new.waiting → ((t n : ℕ) → nat_lt n first ≡ true → is_whole old.waiting t n ≡ true) → ((t n : ℕ) → is_listed entries t n ≡ is_waiting first ds t n)
     → new.live.members ≡ old.live.members
     → OnOk r ((t n : ℕ) → holds new.postings t n ≡ (holds old.postings t n || is_listed entries t n))
     → ((t n : ℕ) → holds old.postings t n ≡ true → holds new.postings t n ≡ true)
     → ((t n : ℕ) → holds new.postings t n ≡ true → (holds old.postings t n || is_listed entries t n) ≡ true)
     → ((new.waiting ≡ old.waiting) ⊎ IsOk r) → AreSetsOf ds new
-AreSetsOf-filled ds numbered first entries old new r kept below entries_are live ok stays grown waiting = record {
+AreSetsOf-filled ds numbered first entries old new r kept none none_now below entries_are live ok stays grown waiting = record {
   live = live ∙ kept.live;
   postings = λ t n whole. postings t n whole waiting;
-  few = few;
+  few = λ t n held. or_left (trigrams_at ds n t) (is_left new.waiting t n) (few t n held);
+  both = λ t n left there. absurd (false≢true (sym (none_now t n) ∙ left));
 }
   where
     listed_at : (t n : ℕ) → is_listed entries t n ≡ (not (nat_lt n first) && trigrams_at ds n t)
@@ -606,7 +659,7 @@ AreSetsOf-filled ds numbered first entries old new r kept below entries_are live
 
     few : (t n : ℕ) → holds new.postings t n ≡ true → trigrams_at ds n t ≡ true
     few t n held =
-        either (holds old.postings t n) (is_listed entries t n) (trigrams_at ds n t) (grown t n held) (kept.few t n)
+        either (holds old.postings t n) (is_listed entries t n) (trigrams_at ds n t) (grown t n held) (held_shown ds old kept none t n)
         (λ there. second (not (nat_lt n first)) (trigrams_at ds n t) (sym (listed_at t n) ∙ there))
 
     before : (t n : ℕ) → is_whole old.waiting t n ≡ true → holds new.postings t n ≡ trigrams_at ds n t
@@ -644,23 +697,25 @@ lists_nothing none e =
 
 -- the sets after they are emptied
 pub AreSetsOf-over : (ds : List Document) (old new : Sets) → AreSetsOf ds old → new.live ≡ old.live
-    → ((t n : ℕ) → holds new.postings t n ≡ false) → ((t n : ℕ) → is_whole new.waiting t n ≡ false) → AreSetsOf ds new
-AreSetsOf-over ds old new kept live none waits = record {
+    → ((t n : ℕ) → holds new.postings t n ≡ false) → ((t n : ℕ) → is_whole new.waiting t n ≡ false) → NoneIsLeft new.waiting → AreSetsOf ds new
+AreSetsOf-over ds old new kept live none waits none_left = record {
   live = ap (λ l. l.members) live ∙ kept.live;
   postings = λ t n whole. absurd (false≢true (sym (waits t n) ∙ whole));
   few = λ t n held. absurd (false≢true (sym (none t n) ∙ held));
+  both = λ t n left there. absurd (false≢true (sym (none_left t n) ∙ left));
 }
 
 -- the sets after the body of a document that waits is replaced
 pub AreSetsOf-waits : (ds : List Document) (number : ℕ) (name old_body body trigrams : List ℕ) (old new : Sets) → AreSetsOf ds old
     → document_at number ds ≡ Some (name, old_body) → ListsTrigrams old_body trigrams
-    → ((t : ℕ) → is_whole old.waiting t number ≡ false) → new.live.members ≡ old.live.members → new.waiting ≡ old.waiting
+    → ((t : ℕ) → is_whole old.waiting t number ≡ false) → NoneIsLeft old.waiting → new.live.members ≡ old.live.members → new.waiting ≡ old.waiting
     → ((t n : ℕ) → holds new.postings t n ≡ (holds old.postings t n && not (has trigrams t && n == number)))
     → AreSetsOf (map (with_body_at number body) ds) new
-AreSetsOf-waits ds number name old_body body trigrams old new kept at lists waits live waiting sets = record {
+AreSetsOf-waits ds number name old_body body trigrams old new kept at lists waits none_left live waiting sets = record {
   live = live ∙ (kept.live ∙ sym (numbers-replaced (λ d. d.number == number) body ds));
   postings = λ t n whole. there t n whole (n == number) refl;
-  few = λ t n held. still t n held (n == number) refl;
+  few = λ t n held. or_left (trigrams_at (map (with_body_at number body) ds) n t) (is_left new.waiting t n) (still t n held (n == number) refl);
+  both = λ t n left there. absurd (false≢true (sym (none_left t n) ∙ (sym (ap (λ w. is_left w t n) waiting) ∙ left)));
 }
   where
     left_as : (was f : Bool) → (was && not (f && false)) ≡ was
@@ -704,8 +759,8 @@ AreSetsOf-waits ds number name old_body body trigrams old new kept at lists wait
         (sym
         (sets_are t n true e
         ∙ none (holds old.postings t n) (has trigrams t)
-        (λ was. listed old_body trigrams lists t ∙ (ap (λ found. trigrams_shown found t) (sym is) ∙ kept.few t n was)))
+        (λ was. listed old_body trigrams lists t ∙ (ap (λ found. trigrams_shown found t) (sym is) ∙ held_shown ds old kept none_left t n was)))
         ∙ held))
     still t n held false e =
         ap (λ found. trigrams_shown found t) (other_at n e)
-        ∙ kept.few t n (sym (sets_are t n false e ∙ left_as (holds old.postings t n) (has trigrams t)) ∙ held)
+        ∙ held_shown ds old kept none_left t n (sym (sets_are t n false e ∙ left_as (holds old.postings t n) (has trigrams t)) ∙ held)

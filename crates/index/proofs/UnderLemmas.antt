@@ -1,23 +1,23 @@
 -- Names that begin with a text, among names that rise.
 use Rattle.std.proofs.Common.{◌≡◌, ℕ, zero, suc, ◌<◌, ◌≤◌, ◌==◌, ◌&&◌, ◌||◌, not, Bool, true, false, cond, List, [], ◌∷◌, length, take}
 use Rattle.std.proofs.Common.{refl, sym, ◌∙◌, ap, subst, arith}
-use Rattle.std.specs.Prelude.{filter, bytes_eq, nat_lt}
+use Rattle.std.specs.Prelude.{filter, bytes_eq}
 use Rattle.std.specs.List.{AllByRecursion, list_any}
 use Rattle.std.specs.List.Sorted.{IsStrictlySortedBy}
 use Rattle.std.specs.Ordering.{nat_cmp, is_le, ordering_then}
-use Rattle.std.specs.Cmp.{nat_cmp_is}
 use Rattle.std.specs.Cmp.Lexicographic.{slice_cmp}
 use Rattle.std.specs.Map.{keys_of, values_of}
 use Rattle.std.specs.BTreeMap.Range.{range_contains, is_from_start, entries_between}
 use Rattle.std.specs.declared.ops.Bound.{Bound}
 use Rattle.std.specs.declared.ops.Bound.TheVariants.{Unbounded}
-use Rattle.std.specs.declared.cmp.Ordering.{Ordering}
-use Rattle.std.specs.declared.cmp.Ordering.TheVariants.{Less, Equal, Greater}
+use Rattle.std.specs.declared.cmp.Ordering.TheVariants.{Less}
 use Rattle.std.proofs.lemmas.Bool.{false≢true}
 use Rattle.std.proofs.lemmas.Bool.Decides.{nat_tests}
 use Rattle.std.proofs.lemmas.List.{length-take}
 use Rattle.std.proofs.lemmas.List.Kept.{IsStrictlySortedBy-filter}
-use Rattle.index.specs.Text.{IsName, begins_with, has_bad_byte, is_name_byte, greatest_name}
+use Rattle.index.specs.Text.{IsName, has_bad_byte, is_name_byte, greatest_name}
+use Rattle.prefixes.specs.Under.{begins_with}
+use Rattle.prefixes.proofs.UnderLemmas.{begins_le, first_le, same_first}
 use Rattle.index.specs.Private.Chosen.{IsFirstUnder}
 use Rattle.index.proofs.DocumentLemmas.{same_name}
 
@@ -55,32 +55,6 @@ filter_after p f implied (x ∷ xs) = go (p x) refl (filter_after p f implied xs
     go false e deeper = deeper
 
 -- ---- names that begin with a text
-
-first_le : (a b : ℕ) (rest : Ordering) → is_le (ordering_then (nat_cmp a b) rest) ≡ true → a ≤ b
-first_le a b rest h = go (nat_lt a b) refl (a == b) refl h
-  where
-    go : (p : Bool) → nat_lt a b ≡ p → (q : Bool) → (a == b) ≡ q → is_le (ordering_then (cond p Less (cond q Equal Greater)) rest) ≡ true → a ≤ b
-    go true e q f h = grind (arith, nat_tests)
-    go false e true f h = grind (arith, nat_tests)
-    go false e false f h = absurd (false≢true h)
-
-same_first : (a b : ℕ) → a ≡ b → nat_cmp a b ≡ Equal
-same_first a b e = sym (nat_cmp_is a b Equal e)
-
--- a name that begins with a text is not below it
-pub begins_le : (text name : List ℕ) → begins_with text name ≡ true → is_le (slice_cmp nat_cmp text name) ≡ true
-begins_le [] [] e = refl
-begins_le [] (n ∷ name) e = refl
-begins_le (t ∷ text) [] e = absurd (false≢true e)
-begins_le (t ∷ text) (n ∷ name) e = go (t == n) refl e (begins_le text name)
-  where
-    go : (s : Bool) → (t == n) ≡ s → (s && bytes_eq text (take (length text) name)) ≡ true
-        → (begins_with text name ≡ true → is_le (slice_cmp nat_cmp text name) ≡ true)
-        → is_le (ordering_then (nat_cmp t n) (slice_cmp nat_cmp text name)) ≡ true
-    go true s e deeper =
-        let same : t ≡ n = grind (arith, nat_tests) in
-        rw (same_first t n same) (deeper e)
-    go false s e deeper = absurd (false≢true e)
 
 -- behind a name that is not below the text and does not begin with it, no name does
 pub none_behind : (text a b : List ℕ) → is_le (slice_cmp nat_cmp text a) ≡ true → slice_cmp nat_cmp a b ≡ Less → begins_with text a ≡ false

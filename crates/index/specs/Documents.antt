@@ -8,7 +8,7 @@ use Rattle.std.specs.List.Sorted.{IsStrictlySortedBy}
 use Rattle.query.specs.Trigrams.{trigrams_of_body}
 use Rattle.query.specs.Query.{Formula, is_met}
 use Rattle.posting.specs.ListValue.{has}
-use Rattle.index.specs.Text.{begins_with}
+use Rattle.prefixes.specs.Under.{begins_with, is_under_one}
 use Rattle.index.specs.declared.command.Command.{Command}
 use Rattle.index.specs.declared.command.Command.TheVariants.{Put, Remove, RemoveUnder}
 
@@ -93,9 +93,17 @@ documents_of commands = documents_from 1 commands []
 abbrev pub meets : Formula → Document → Bool
 meets formula d = is_met formula (trigrams_of_body d.body)
 
+-- whether the document's name begins with one of the texts
+abbrev pub is_under_any : List (List ℕ) → Document → Bool
+is_under_any texts d = is_under_one texts d.name
+
 -- whether the document's number is one of these and its name begins with the text
-abbrev pub is_chosen : List ℕ → List ℕ → Document → Bool
-is_chosen numbers text d = has numbers d.number && is_under text d
+abbrev pub is_picked : List ℕ → List ℕ → Document → Bool
+is_picked numbers text d = has numbers d.number && is_under text d
+
+-- the same with one of some texts
+abbrev pub is_chosen : List ℕ → List (List ℕ) → Document → Bool
+is_chosen numbers texts d = has numbers d.number && is_under_any texts d
 
 -- names rise by their bytes, as unsigned numbers
 abbrev pub RisesByName : List Document → Type 0

@@ -3,7 +3,8 @@ use Rattle.std.specs.Prelude.{◌≡◌, true, ℕ, ◌+◌, ◌<◌, ◌≤◌,
 use Rattle.std.specs.List.Sorted.{IsStrictlyIncreasing}
 use Rattle.index.specs.declared.command.Command.{Command}
 use Rattle.index.specs.Documents.{Document, documents_after, documents_of, without}
-use Rattle.index.specs.Text.{IsName, IsBody, begins_with}
+use Rattle.index.specs.Text.{IsName, IsBody}
+use Rattle.prefixes.specs.Under.{begins_with}
 
 -- version: the number of commands
 pub record State : Type 0 where

@@ -1,5 +1,5 @@
 -- What a name is, and what a body is (this program's choices).
-use Rattle.std.specs.Prelude.{◌≡◌, ℕ, ◌<◌, ◌≤◌, Bool, true, false, not, ◌&&◌, ◌==◌, nat_le, nat_lt, min, List, length, take, bytes_eq}
+use Rattle.std.specs.Prelude.{◌≡◌, ℕ, ◌<◌, ◌≤◌, Bool, true, false, not, ◌&&◌, ◌==◌, nat_le, nat_lt, min, List, length}
 use Rattle.std.specs.List.{list_any}
 use Rattle.lines.specs.Lines.{lines_of, greatest_line}
 use Rattle.index.specs.declared.lengths.Lengths.{Lengths}
@@ -34,10 +34,6 @@ pub record IsNameOf (most : ℕ) (bytes : List ℕ) : Type 0 where
   pub some : 0 < length bytes
   pub short : length bytes ≤ most_name_bytes most
   pub printable : has_bad_byte bytes ≡ false
-
--- whether the name begins with the text
-abbrev pub begins_with : List ℕ → List ℕ → Bool
-begins_with text name = bytes_eq text (take (length text) name)
 
 -- The first cause for which bytes were not made into a name of at most so many bytes. Memory runs out only if they are one.
 unfoldable pub IsNameFault : ℕ → NameError → List ℕ → Type 0

@@ -9,8 +9,9 @@ ghost use Rattle.std.specs.List.Sorted.{IsStrictlyIncreasing};
 ghost use Rattle.index.specs.declared.command.Command.TheVariants.{Put as put_command, Remove as remove_command, RemoveUnder as remove_under_command};
 ghost use Rattle.query.specs.Query.{formula_of};
 ghost use Rattle.query.specs.Trigrams.{ListsTrigrams};
-ghost use Rattle.index.specs.Text.{IsName, begins_with};
-ghost use Rattle.index.specs.Documents.{document_at, number_of, has_under, meets, is_chosen, is_under, AreFirstInNameOrder};
+ghost use Rattle.index.specs.Text.{IsName};
+ghost use Rattle.prefixes.specs.Under.{begins_with};
+ghost use Rattle.index.specs.Documents.{document_at, number_of, has_under, meets, is_chosen, is_picked, is_under, is_under_any, AreFirstInNameOrder};
 ghost use Rattle.index.specs.State.{applied, state_of, body_bytes, IsState, IsTakenUnder};
 ghost use Rattle.index.specs.Shared.{documents_shared};
 ghost use Rattle.index.specs.Private.Chosen.{document_numbered, documents_numbered, IsFirstUnder};
@@ -22,10 +23,11 @@ use crate::document::SharedDocument;
 use crate::error::{ApplyError, NameError};
 use crate::held::Held;
 use crate::name::{MAX_NAME, Name};
-use crate::sets::Waiting;
+use crate::sets::FEW_BYTES;
 use crate::slots::{Occupant, occupant_at};
 use crate::store::Store;
-use posting::Trigrams;
+use posting::{Lookup, Trigrams};
+use prefixes::Prefixes;
 use query::Query;
 use std::alloc::{AllocError, Global};
 use std::cmp::Ordering;
@@ -142,7 +144,7 @@ impl Index {
     }
 
     /// As `apply_put`, but a new document waits to be put into the sets of its trigrams, until `fill` puts all that wait there
-    /// together, or `fill_some` puts it there.
+    /// together, or `fill_some` one after the other. Until then, between two pieces too, `candidates` answers with an `Err`.
     pub fn put_later(&mut self, name: &Name, held: &Held) -> Result<(), AllocError>
         requires { self.old.version + 1 < 2 ^ 32 }
         ensures ok { OnOk result (self.new ≡ applied (put_command name.now held.now) self.old) }
@@ -194,6 +196,54 @@ impl Index {
         Ok(())
     }
 
+    /// As `apply_put`, but if nothing waits yet and many sets have to change, the document waits, until `fill_some` or `fill` has
+    /// changed them: a new one, or one whose body is replaced. If all documents from a number on wait, a new one waits with them.
+    pub fn put_in_pieces(&mut self, name: &Name, held: &Held) -> Result<(), AllocError>
+        requires { self.old.version + 1 < 2 ^ 32 }
+        ensures ok { OnOk result (self.new ≡ applied (put_command name.now held.now) self.old) }
+        ensures err { OnErr result (self.new ≡ self.old) }
+    {
+        self.start_over_if_too_much();
+        if self.store.sets.has_waiting(u32::MAX) {
+            return self.put_later(name, held);
+        }
+        if !self.store.is_idle() {
+            return self.apply_put(name, held);
+        }
+        match self.number(name) {
+            Some(number) if self.store.changes_much(number, held.trigrams())? => {
+                self.replace_in_pieces(name, number, held)
+            }
+            Some(_) => self.apply_put(name, held),
+            None if held.trigrams().size() > FEW_BYTES => self.put_new_later(name, held),
+            None => self.apply_put(name, held),
+        }
+    }
+
+    /// Has all documents wait for `fill`, if it has taken as long to change the sets as to fill them.
+    fn start_over_if_too_much(&mut self)
+        ensures { self.new ≡ self.old }
+    {
+        self.store.start_over_if_too_much();
+    }
+
+    /// Applies the `Put` of the name of the document with this number, which then waits. Nothing waits yet, or this is an `Err` too.
+    fn replace_in_pieces(&mut self, name: &Name, number: u32, held: &Held) -> Result<(), AllocError>
+        requires few { self.old.version + 1 < 2 ^ 32 }
+        requires there { number_of name.now self.old.documents ≡ Some number }
+        ensures ok { OnOk result (self.new ≡ applied (put_command name.now held.now) self.old) }
+        ensures err { OnErr result (self.new ≡ self.old) }
+    {
+        let held = held.share()?;
+        let _trigrams = held.trigrams();
+        if !self.store.is_idle() {
+            return Err(AllocError);
+        }
+        self.store.replace_in_pieces(number, held);
+        self.version += 1;
+        Ok(())
+    }
+
     fn put_new_later(&mut self, name: &Name, held: &Held) -> Result<(), AllocError>
         requires few { self.old.version + 1 < 2 ^ 32 }
         requires new { number_of name.now self.old.documents ≡ None }
@@ -210,36 +260,48 @@ impl Index {
         Ok(())
     }
 
-    /// Says that `fill` follows. Until then removes may empty the sets of the trigrams and have all documents wait, where it takes
-    /// about as long to put them there anew as to take out those that go.
-    pub fn expect_fill(&mut self)
+    /// Says whether `fill` or `fill_some` follows. If so, removes and replacements may empty the sets of the trigrams and have all
+    /// documents wait, where it takes about as long to put them there anew as to take out what goes. `fill` ends that.
+    pub fn expect_fill(&mut self, expected: bool)
         ensures { self.new ≡ self.old }
     {
-        self.store.expects_fill = true;
+        self.store.expects_fill = expected;
+        self.store.taken = if expected { self.store.taken } else { 0 };
     }
 
     /// Puts the documents that wait into the sets of their trigrams, in up to `threads` threads, each with a range of the
-    /// trigrams. The index has the same documents in either case. An `Err` means that memory ran out; some may then still
-    /// wait, and until a further call `candidates` answers with an `Err` too.
+    /// trigrams, and takes one that waits to be taken out of some out of these. The index has the same documents in either case. An
+    /// `Err` means that memory ran out; some may then still wait.
     pub fn fill<R: Threads + Sync>(&mut self, rt: &R, threads: usize) -> Result<(), AllocError>
         ensures { self.new ≡ self.old }
     {
         self.store.fill(rt, threads)
     }
 
-    /// Puts the document that waits, if only one does, into at most `most` more of the sets of its trigrams, so that a large one can
-    /// be put in piece by piece. Returns how many of `most` are left; if that is not 0, `is_filling` is `false`. The index has the same documents in either
-    /// case. An `Err` means that memory ran out; it then still waits.
+    /// Goes on with what waits, in pieces: with a document that waits alone (`fill_one`), or with all documents from a number on, which
+    /// are put into the sets of their trigrams one after the other, each whole. Returns how much of `most` is left; if that is not 0,
+    /// `is_filling` is `false`. The index has the same documents in either case. An `Err` means that memory ran out; it then still
+    /// waits.
     pub fn fill_some(&mut self, most: usize) -> Result<usize, AllocError>
         ensures { self.new ≡ self.old }
     {
         self.store.fill_some(most)
     }
 
-    /// Whether one document waits to be put into the sets of its trigrams, which `fill_some` and `fill` go on with. Until then `candidates`
-    /// answers with an `Err`.
+    /// Goes on with the document that waits alone, if one does, so that a large one is put in, replaced or taken out in pieces.
+    /// `most` bounds the work: a set that changes counts 8, and more where the number has many others on both sides, and a trigram
+    /// that the body before has too, whose set stays, 1. Returns how much of `most` is left; if that is not 0, it waits no more. The
+    /// index has the same documents in either case. An `Err` means that memory ran out; it then still waits.
+    pub fn fill_one(&mut self, most: usize) -> Result<usize, AllocError>
+        ensures { self.new ≡ self.old }
+    {
+        self.store.fill_one(most)
+    }
+
+    /// Whether documents wait to be put into the sets of their trigrams or taken out of them, which `fill_some` and `fill` go on
+    /// with. While any do, `candidates` answers with an `Err`.
     pub fn is_filling(&self) -> bool {
-        matches!(self.store.sets.waiting, Some(Waiting::One(_, _)))
+        self.store.sets.waiting.is_some()
     }
 
     /// Applies the `Remove` of this name. The limit on commands is that of `apply`. It takes no memory, and never
@@ -250,31 +312,60 @@ impl Index {
         ensures err { OnErr result (self.new ≡ self.old) }
         ensures done { IsOk result }
     {
+        self.remove_one(name, false)
+    }
+
+    /// As `remove`, but if nothing waits yet and the document has many trigrams, its number waits to be taken out of their sets, until
+    /// `fill_some` or `fill` has done that.
+    pub fn remove_in_pieces(&mut self, name: &Name) -> Result<(), AllocError>
+        requires { self.old.version + 1 < 2 ^ 32 }
+        ensures ok { OnOk result (self.new ≡ applied (remove_command name.now) self.old) }
+        ensures err { OnErr result (self.new ≡ self.old) }
+        ensures done { IsOk result }
+    {
+        self.remove_one(name, true)
+    }
+
+    fn remove_one(&mut self, name: &Name, later: bool) -> Result<(), AllocError>
+        requires { self.old.version + 1 < 2 ^ 32 }
+        ensures ok { OnOk result (self.new ≡ applied (remove_command name.now) self.old) }
+        ensures err { OnErr result (self.new ≡ self.old) }
+        ensures done { IsOk result }
+    {
         if let Some(number) = self.numbers.remove(name) {
-            self.store.take_out(number);
+            self.store.take_out(number, later);
         }
         self.version += 1;
         Ok(())
     }
 
-    /// Applies the `RemoveUnder` of this prefix, in time for the documents that go, each times the sets of its trigrams behind its
-    /// number; documents with the greatest numbers go fastest. The limit on commands is that of `apply`. It needs no memory, and
-    /// never returns an `Err`, although its type is that of `apply_put`.
+    /// Applies the `RemoveUnder` of this prefix, in time for the trigrams of the documents that go, each times the numbers in its set
+    /// up to the nearer end. The first or the last name goes next, whichever document is nearer to an end of the sets. The limit on
+    /// commands is that of `apply`. It needs no memory, and never returns an `Err`, although its type is that of `apply_put`.
     pub fn remove_under(&mut self, prefix: &Name) -> Result<(), AllocError>
         requires { self.old.version + 1 < 2 ^ 32 }
         ensures ok { OnOk result (self.new ≡ applied (remove_under_command prefix.now) self.old) }
         ensures err { OnErr result (self.new ≡ self.old) }
         ensures done { IsOk result }
     {
-        while self.take_one_under(prefix) {}
+        while self.take_under(prefix, false) {}
         self.version += 1;
         Ok(())
     }
 
     /// Takes out a document whose name begins with the prefix, and returns whether there is one. It is no command: the version
     /// stays. So the `RemoveUnder` of a prefix can be carried out in pieces: after some documents were taken out, it leaves what it
-    /// would have left before. This needs no memory.
+    /// would have left before. If nothing waits yet and the document has many trigrams, its number waits to be taken out of their
+    /// sets, until `fill_some` or `fill` has done that. This needs no memory.
     pub fn take_one_under(&mut self, prefix: &Name) -> bool
+        ensures taken { IsTrue result → IsTakenUnder prefix.now self.old self.new }
+        ensures same { applied (remove_under_command prefix.now) self.new ≡ applied (remove_under_command prefix.now) self.old }
+        ensures none { IsFalse result → (self.new ≡ self.old) × (has_under prefix.now self.old.documents ≡ false) }
+    {
+        self.take_under(prefix, true)
+    }
+
+    fn take_under(&mut self, prefix: &Name, later: bool) -> bool
         ensures taken { IsTrue result → IsTakenUnder prefix.now self.old self.new }
         ensures same { applied (remove_under_command prefix.now) self.new ≡ applied (remove_under_command prefix.now) self.old }
         ensures none { IsFalse result → (self.new ≡ self.old) × (has_under prefix.now self.old.documents ≡ false) }
@@ -287,7 +378,7 @@ impl Index {
             return false;
         };
         self.numbers.remove(&occupant.name);
-        self.store.take_out(number);
+        self.store.take_out(number, later);
         true
     }
 
@@ -306,7 +397,8 @@ impl Index {
         self.store.count as u32
     }
 
-    /// The total length of the documents' bodies, in bytes. The index holds no other bodies.
+    /// The total length of the documents' bodies, in bytes. The index holds no other bodies, but for the one that a document had
+    /// while it waits to be taken out of the sets of its trigrams (`is_filling`).
     pub fn held_bytes(&self) -> u64
         ensures { result ≡ body_bytes self.now.documents }
     {
@@ -337,129 +429,222 @@ impl Index {
         &self.store.sets.live
     }
 
-    /// The numbers of the documents whose trigrams meet the query, rising. An `Err` means that memory ran out, now or when
-    /// documents were last to be put into the sets of their trigrams (`fill`).
+    /// The numbers of the documents whose trigrams meet the query, rising. An `Err` means that memory ran out, or that documents
+    /// wait (`is_filling`): between two pieces, or since memory ran out when they were to be put into their sets.
     pub fn candidates(&self, alloc: Global, query: &Query) -> Result<posting::List, AllocError>
         ensures { IfOk result (λ chosen. chosen.members
             ≡ map (λ d. d.number) (filter (meets (formula_of query.now)) self.now.documents)) }
     {
         let sets = &self.store.sets;
-        match sets.waiting {
+        match &sets.waiting {
             Some(_) => Err(AllocError),
             None => sets.postings.select(alloc, query, &sets.live),
         }
     }
 
-    /// The documents whose numbers are in the list and whose names begin with the prefix, in the order of their names: all
-    /// of them, or the first ones, of which there are `most` or more. A number that no document has is left out. The cost
-    /// depends mainly on how many names begin with the prefix and are gone through until `most` documents are found or,
+    /// The documents whose numbers are in the list and whose names begin with one of the prefixes, in the order of their names:
+    /// all of them, or the first ones, of which there are `most` or more. A number that no document has is left out. The cost
+    /// depends mainly on how many names begin with the prefixes and are gone through until `most` documents are found or,
     /// if the list is shorter than an eighth of the names in question, on the length of the list. If the list is longer than
-    /// `most`, it counts as shorter only below a 64th. All numbers of the list are gone through in any case.
+    /// `most`, it counts as shorter only below a 64th. All numbers of the list are gone through in any case, and each prefix is
+    /// looked for once or twice.
     ///
     /// An `Err` means that memory ran out, or that a name or a body has too many handles.
     pub fn chosen_documents_under(
         &self,
         alloc: Global,
         chosen: &posting::List,
-        prefix: &[u8],
+        prefixes: &Prefixes,
         most: usize,
     ) -> Result<Vec<SharedDocument>, AllocError>
-        ensures { IfOk result (λ shared. AreFirstInNameOrder most (filter (is_chosen chosen.now.members prefix.now) self.now.documents)
+        ensures { IfOk result (λ shared. AreFirstInNameOrder most (filter (is_chosen chosen.now.members prefixes.now) self.now.documents)
             (documents_shared shared.items)) }
     {
         let _ = &self.version;
-        let first = match first_under(alloc, prefix)? {
-            Some(first) => first,
-            None => return Ok(Vec::new(alloc)),
-        };
         let few = if most < chosen.len() {
             FEW_FOR_FIRST
         } else {
             FEW
         };
-        if self.has_many_under(&first, prefix, chosen.len().saturating_mul(few)) {
-            self.few(alloc, chosen, prefix, most)
+        if self.has_many_under(alloc, prefixes, chosen.len().saturating_mul(few))? {
+            self.few(alloc, chosen, prefixes, most)
         } else {
-            self.many(alloc, chosen, prefix, &first, most)
+            self.many(alloc, chosen, prefixes, most)
         }
     }
 
-    /// Whether about `most` names or more begin with the prefix. They are the first from `first` on, so one name in
-    /// each `STRIDE` shows it.
-    fn has_many_under(&self, first: &Bound<Name>, prefix: &[u8], most: usize) -> bool {
-        if self.numbers.len() < most || prefix.is_empty() {
-            return self.numbers.len() >= most;
+    /// Whether about `most` names or more begin with one of the prefixes. An `Err` means that memory ran out.
+    fn has_many_under(
+        &self,
+        alloc: Global,
+        prefixes: &Prefixes,
+        most: usize,
+    ) -> Result<bool, AllocError> {
+        if self.numbers.len() < most {
+            return Ok(false);
         }
+        let mut left = most;
+        for prefix in prefixes.texts() {
+            let count = self.count_under(alloc, prefix.as_slice(), left)?;
+            if count >= left {
+                return Ok(true);
+            }
+            left -= count;
+        }
+        Ok(false)
+    }
+
+    /// About how many names begin with the prefix, up to `most`: one name in each `STRIDE` shows it. A prefix under which fewer
+    /// are counts as one, since it has to be looked for. An `Err` means that memory ran out.
+    fn count_under(&self, alloc: Global, prefix: &[u8], most: usize) -> Result<usize, AllocError> {
+        if prefix.is_empty() {
+            return Ok(self.numbers.len());
+        }
+        let Some(first) = first_under(alloc, prefix)? else {
+            return Ok(1);
+        };
         let mut names = self.numbers.range((first.as_ref(), Bound::Unbounded));
-        for _ in 0..most / STRIDE {
+        for stride in 0..most / STRIDE {
             match names.nth(STRIDE - 1) {
                 Some((name, _)) if name.as_bytes().starts_with(prefix) => {}
-                _ => return false,
+                _ => return Ok(stride * STRIDE + 1),
             }
         }
-        true
+        Ok(most)
     }
 
-    /// The documents whose numbers are in the list and whose names begin with the prefix, up to `most`: each number is
+    /// The documents whose numbers are in the list and whose names begin with one of the prefixes, up to `most`: each number is
     /// looked up, and then the documents are sorted by name.
     fn few(
         &self,
         alloc: Global,
         chosen: &posting::List,
-        prefix: &[u8],
+        prefixes: &Prefixes,
         most: usize,
     ) -> Result<Vec<SharedDocument>, AllocError>
-        ensures { IfOk result (λ shared. AreFirstInNameOrder most (filter (is_chosen chosen.now.members prefix.now) self.now.documents)
+        ensures { IfOk result (λ shared. AreFirstInNameOrder most (filter (is_chosen chosen.now.members prefixes.now) self.now.documents)
             (documents_shared shared.items)) }
     {
         let _ = &self.version;
-        let mut shared = self.numbered(alloc, chosen, prefix)?;
+        let mut shared = self.numbered(alloc, chosen, prefixes)?;
         shared.sort_unstable_by(|one, other| one.name.cmp(&other.name));
         shared.truncate(most);
         Ok(shared)
     }
 
-    /// The documents whose numbers are in the list and whose names begin with the prefix, in the order of their numbers.
+    /// The documents whose numbers are in the list and whose names begin with one of the prefixes, in the order of their
+    /// numbers.
     fn numbered(
         &self,
         alloc: Global,
         chosen: &posting::List,
-        prefix: &[u8],
+        prefixes: &Prefixes,
     ) -> Result<Vec<SharedDocument>, AllocError>
         ensures documents { IfOk result (λ shared. documents_shared shared.items
-            ≡ filter (is_under prefix.now) (documents_numbered self.now.documents chosen.now.members)) }
+            ≡ filter (is_under_any prefixes.now) (documents_numbered self.now.documents chosen.now.members)) }
         ensures rising { IsStrictlyIncreasing chosen.now.members }
     {
         let numbers = chosen.numbers();
         let mut shared = Vec::with_capacity(alloc, chosen.len())?;
         for number in numbers {
-            self.add(number, prefix, &mut shared)?;
+            self.add_if_under(number, prefixes, &mut shared)?;
         }
         Ok(shared)
     }
 
-    /// The documents whose numbers are in the list and whose names begin with the prefix, found among all documents in the
-    /// order of their names, from `first` on, until there are `most`.
+    /// Adds the document with this number, if there is one and its name begins with one of the prefixes.
+    fn add_if_under(
+        &self,
+        number: u32,
+        prefixes: &Prefixes,
+        shared: &mut Vec<SharedDocument>,
+    ) -> Result<(), AllocError>
+        ensures { OnOk result (documents_shared shared.new.items
+            ≡ documents_shared shared.old.items ++ filter (is_under_any prefixes.now) (document_numbered self.now.documents number)) }
+    {
+        if let Some(occupant) = occupant_at(&self.store.slots, number) {
+            if prefixes.have(occupant.name.as_bytes()) {
+                shared.push(SharedDocument {
+                    number,
+                    name: occupant.name.share()?,
+                    held: occupant.held.share()?,
+                })?;
+            }
+        }
+        Ok(())
+    }
+
+    /// The documents whose numbers are in the list and whose names begin with one of the prefixes, found among those of each
+    /// prefix in turn, until there are `most`.
     fn many(
         &self,
         alloc: Global,
         chosen: &posting::List,
-        prefix: &[u8],
-        first: &Bound<Name>,
+        prefixes: &Prefixes,
         most: usize,
     ) -> Result<Vec<SharedDocument>, AllocError>
-        requires { IsFirstUnder prefix.now first.now }
-        ensures { IfOk result (λ shared. AreFirstInNameOrder most (filter (is_chosen chosen.now.members prefix.now) self.now.documents)
+        ensures { IfOk result (λ shared. AreFirstInNameOrder most (filter (is_chosen chosen.now.members prefixes.now) self.now.documents)
             (documents_shared shared.items)) }
     {
+        // the names rise, as is known of what goes through them
+        let _in_order = self.numbers.iter();
         let among = chosen.lookup(alloc)?;
-        // most prefixes leave few of them
-        let room = if prefix.is_empty() {
-            most.min(chosen.len())
-        } else {
-            0
-        };
-        let mut shared = Vec::with_capacity(alloc, room)?;
+        let count = chosen.len();
+        let mut shared = Vec::new(alloc);
+        for prefix in prefixes.texts() {
+            if shared.len() < most {
+                let left = most - shared.len();
+                let part = self.under(alloc, &among, prefix.as_slice(), count, left)?;
+                shared = joined(shared, part)?;
+            }
+        }
+        Ok(shared)
+    }
+
+    /// The documents whose numbers are among these, of which there are `count`, and whose names begin with the prefix, in the
+    /// order of their names, until there are `most`.
+    fn under(
+        &self,
+        alloc: Global,
+        among: &Lookup,
+        prefix: &[u8],
+        count: usize,
+        most: usize,
+    ) -> Result<Vec<SharedDocument>, AllocError>
+        ensures { IfOk result (λ shared. AreFirstInNameOrder most (filter (is_picked among.now prefix.now) self.now.documents)
+            (documents_shared shared.items)) }
+    {
+        let _ = &self.version;
+        match first_under(alloc, prefix)? {
+            Some(first) => {
+                // most prefixes leave few of them
+                let room = if prefix.is_empty() {
+                    most.min(count)
+                } else {
+                    0
+                };
+                let shared = Vec::with_capacity(alloc, room)?;
+                self.under_from(among, prefix, &first, shared, most)
+            }
+            None => Ok(Vec::new(alloc)),
+        }
+    }
+
+    /// The same, found among all documents in the order of their names, from `first` on, and put into this empty vector.
+    fn under_from(
+        &self,
+        among: &Lookup,
+        prefix: &[u8],
+        first: &Bound<Name>,
+        room: Vec<SharedDocument>,
+        most: usize,
+    ) -> Result<Vec<SharedDocument>, AllocError>
+        requires first { IsFirstUnder prefix.now first.now }
+        requires empty { room.items ≡ [] }
+        ensures { IfOk result (λ shared. AreFirstInNameOrder most (filter (is_picked among.now prefix.now) self.now.documents)
+            (documents_shared shared.items)) }
+    {
+        let mut shared = room;
         for (name, number) in self.numbers.range((first.as_ref(), Bound::Unbounded)) {
             if shared.len() >= most {
                 return Ok(shared);
@@ -495,6 +680,22 @@ impl Index {
         }
         Ok(())
     }
+}
+
+/// The documents of both, the first ones first.
+fn joined(
+    first: Vec<SharedDocument>,
+    later: Vec<SharedDocument>,
+) -> Result<Vec<SharedDocument>, AllocError>
+    ensures { IfOk result (λ both. both.items ≡ first.items ++ later.items) }
+{
+    if first.as_slice().is_empty() {
+        return Ok(later);
+    }
+    let mut both = first;
+    let mut rest = later;
+    both.append(&mut rest)?;
+    Ok(both)
 }
 
 /// From where on the names stand that begin with the prefix; nothing if no name can begin with it. An `Err` means that
@@ -581,6 +782,7 @@ fn enter(
     number: u32,
     trigrams: &Trigrams,
 ) -> Result<Name, AllocError>
+    requires { (last : ℕ) × IsStore last store.old }
     ensures documents { stored store.new ≡ stored store.old }
     ensures store { (last : ℕ) → IsStore last store.old → IsStore last store.new }
     ensures name { IfOk result (λ own. (own ≡ name.now) × IsName own) }

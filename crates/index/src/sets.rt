@@ -1,36 +1,38 @@
 //! The sets by which an index finds its documents.
 
-ghost use Rattle.std.specs.Prelude.{◌≡◌, ℕ, ◌<◌, All, Some, None, nat_lt, true, false, not, ◌==◌, ◌||◌, ◌&&◌, [], ◌∷◌, ◌++◌, filter, OnOk, IfOk};
+ghost use Rattle.std.specs.Prelude.{◌≡◌, ℕ, ◌<◌, All, Some, nat_lt, true, false, not, ◌==◌, ◌||◌, ◌&&◌, [], ◌∷◌, ◌++◌, filter, OnOk, IfOk, IsFalse, None};
 ghost use Rattle.posting.specs.ListValue.{has, without, HasRoom};
-ghost use Rattle.posting.specs.Postings.{holds, SameSets, IsPrepared, IsAbsent, AllDiffer, is_before};
-ghost use Rattle.index.specs.declared.sets.Waiting.TheVariants.{One};
-ghost use Rattle.index.specs.Private.Sets.{HasRoomFor, IsNew, IsChange, IsPut, is_whole};
+ghost use Rattle.posting.specs.Postings.{holds, SameSets, IsPrepared, IsAbsent, AllDiffer};
+ghost use Rattle.index.specs.Private.Sets.{HasRoomFor, IsNew, IsChange, FollowTakenOut, StayInStep, StayInStepNext, ReachesNext, trigrams_before, is_whole, NoneIsLeft};
 
+use crate::held::Held;
 use posting::{List, Postings, Trigrams};
 use std::alloc::{AllocError, Global};
+
+/// Trigrams that are kept in no more bytes are few: the sets of all of them change at once.
+pub(crate) const FEW_BYTES: usize = 4_096;
 
 /// What a new body changes of the trigrams of a document.
 #[derive(Drop)]
 pub(crate) struct Change {
     /// The trigrams of the new body that the old one has not.
-    fresh: Trigrams,
+    pub(crate) fresh: Trigrams,
     /// The trigrams of the old body that the new one has not.
-    gone: Trigrams,
-}
-
-impl Change {
-    /// Whether more than so many trigrams come, or more than so many go.
-    pub(crate) fn has_more(&self, most: usize) -> bool {
-        are_more(&self.fresh, most) || are_more(&self.gone, most)
-    }
+    pub(crate) gone: Trigrams,
 }
 
 /// Which documents wait to be put into the sets of their trigrams.
-#[derive(Clone, Copy)]
+#[derive(Drop)]
 pub(crate) enum Waiting {
-    /// The one with this number, which is in the sets of its trigrams below this one.
-    One(u32, u32),
-    /// Those from this number on.
+    /// The one with this number. It is in the sets of its trigrams below `from`, and in no others of those. From there on it can be
+    /// in those of the trigrams of its body and of the body that it had before, if it had one, and is in those of trigrams that
+    /// both have.
+    One {
+        number: u32,
+        from: u32,
+        old: Option<Held>,
+    },
+    /// Those from this number on, which are in no sets but those of their trigrams.
     From(u32),
 }
 
@@ -106,16 +108,24 @@ impl Sets {
         self.postings.withdraw(number, &change.gone);
     }
 
-    /// Takes out the document with this number and these trigrams.
-    pub(crate) fn take_out(&mut self, number: u32, trigrams: &Trigrams)
+    /// Takes out the document with this number and this body. If `later` is asked for and nothing waits yet, its number waits to be
+    /// taken out of the sets of its trigrams.
+    pub(crate) fn take_out(&mut self, number: u32, held: Held, later: bool)
         ensures live { self.new.live.members ≡ without number self.old.live.members }
-        ensures waiting { self.new.waiting ≡ self.old.waiting }
-        ensures postings { (trigram n : ℕ) → holds self.new.postings trigram n
-            ≡ (holds self.old.postings trigram n && not (has trigrams.now trigram && n == number)) }
+        ensures sets { FollowTakenOut number held self.old self.new }
     {
         self.live.remove(number);
         self.live.give_back();
-        self.postings.withdraw(number, trigrams);
+        let trigrams = held.trigrams();
+        if later && self.waiting.is_none() {
+            self.waiting = Some(Waiting::One {
+                number,
+                from: 0,
+                old: Some(held),
+            });
+        } else {
+            self.postings.withdraw(number, trigrams);
+        }
     }
 
     /// Puts in a document with these trigrams, for which there is room. The number is above all others.
@@ -138,9 +148,10 @@ impl Sets {
         ensures live { self.new.live.members ≡ self.old.live.members ++ number ∷ [] }
         ensures postings { self.new.postings ≡ self.old.postings }
         ensures waiting { (t n : ℕ) → is_whole self.new.waiting t n ≡ true → (is_whole self.old.waiting t n ≡ true) × ((number == n) ≡ false) }
+        ensures none_left { NoneIsLeft self.new.waiting }
     {
         self.live.push(number);
-        self.waiting = Some(with_waiting(self.waiting, number));
+        self.waiting = Some(with_waiting(&self.waiting, number));
     }
 
     /// Empties the sets of all trigrams, and has all documents wait to be put into them. It needs no memory, and gives back that of
@@ -149,6 +160,7 @@ impl Sets {
         ensures live { self.new.live ≡ self.old.live }
         ensures postings { (t n : ℕ) → holds self.new.postings t n ≡ false }
         ensures waiting { (t n : ℕ) → is_whole self.new.waiting t n ≡ false }
+        ensures none_left { NoneIsLeft self.new.waiting }
     {
         self.postings = Postings::new(alloc);
         self.waiting = Some(Waiting::From(0));
@@ -156,10 +168,11 @@ impl Sets {
 
     /// Whether the document with this number waits, with all its trigrams, for `fill`.
     pub(crate) fn has_waiting(&self, number: u32) -> bool
-        ensures { result ≡ true → (t : ℕ) → is_whole self.now.waiting t number ≡ false }
+        ensures waits { result ≡ true → (t : ℕ) → is_whole self.now.waiting t number ≡ false }
+        ensures none_left { result ≡ true → NoneIsLeft self.now.waiting }
     {
-        match self.waiting {
-            Some(Waiting::From(first)) => first <= number,
+        match &self.waiting {
+            Some(Waiting::From(first)) => *first <= number,
             _ => false,
         }
     }
@@ -174,70 +187,127 @@ impl Sets {
         self.postings.withdraw(number, trigrams);
     }
 
-    /// Puts the document with this number and these trigrams, which waits, into at most `most` more of their sets, in the order of
-    /// the trigrams, from the trigram `from` on. Returns how many of `most` are left; if that is not 0, it waits no more.
+    /// Goes on with the document that has this number and these trigrams, if it waits alone: puts it into the sets of its trigrams
+    /// and takes it out of those of the body before, in the order of the trigrams, until the work comes to `most`, where `share` says
+    /// how much a set that changes counts (`Postings::move_some`). `none` are no trigrams. Returns how much of `most` is left; if that
+    /// is not 0, it waits no more.
     ///
     /// An `Err` means that memory ran out. It then still waits.
-    pub(crate) fn put_some(
+    pub(crate) fn move_some(
         &mut self,
         number: u32,
         trigrams: &Trigrams,
-        from: u32,
+        none: &Trigrams,
         most: usize,
+        share: usize,
     ) -> Result<usize, AllocError>
-        requires { self.old.waiting ≡ Some (One number from) }
-        ensures live { self.new.live.members ≡ self.old.live.members }
-        ensures kept { (t n : ℕ) → holds self.old.postings t n ≡ true → holds self.new.postings t n ≡ true }
-        ensures grown { (t n : ℕ) → holds self.new.postings t n ≡ true → (holds self.old.postings t n || (has trigrams.now t && number == n)) ≡ true }
-        ensures whole { (t n : ℕ) → is_whole self.new.waiting t n ≡ true
-            → IsPut self.old.waiting self.new.postings number trigrams.now t n }
+        requires { none.now ≡ [] }
+        ensures { StayInStep number trigrams.now self.old self.new }
     {
-        let (next, left) = self.postings.put_some(number, trigrams, from, most)?;
-        self.waiting = still_waiting(number, next);
+        let Some(
+            Waiting::One {
+                number: waiting,
+                from,
+                old,
+            },
+        ) = &self.waiting
+        else {
+            return Ok(most);
+        };
+        if *waiting != number {
+            return Ok(most);
+        }
+        let old = trigrams_of_old(old, none);
+        let (next, left) = self
+            .postings
+            .move_some(number, old, trigrams, *from, most, share)?;
+        reach(&mut self.waiting, next);
         Ok(left)
+    }
+
+    /// Puts the document with this number and these trigrams, the first of those from a number on that wait, into their sets. `none`
+    /// are no trigrams. Returns how much work that was. An `Err` means that memory ran out. It then still waits.
+    pub(crate) fn put_next(
+        &mut self,
+        number: u32,
+        trigrams: &Trigrams,
+        none: &Trigrams,
+    ) -> Result<usize, AllocError>
+        requires { none.now ≡ [] }
+        ensures step { StayInStepNext number trigrams.now self.old self.new }
+        ensures work { IfOk result (λ work. 0 < work) }
+    {
+        let Some(after) = number.checked_add(1) else {
+            return Err(AllocError);
+        };
+        let (next, left) = self
+            .postings
+            .move_some(number, none, trigrams, 0, usize::MAX, 0)?;
+        if next.is_some() {
+            return Err(AllocError);
+        }
+        self.waiting = Some(Waiting::From(after));
+        Ok(usize::MAX.saturating_sub(left).max(1))
+    }
+
+    /// Whether a document that has gone, or whose body was replaced, waits to be taken out of the sets of its trigrams.
+    pub(crate) fn has_left(&self) -> bool
+        ensures { IsFalse result → NoneIsLeft self.now.waiting }
+    {
+        matches!(&self.waiting, Some(Waiting::One { old: Some(_), .. }))
     }
 }
 
 impl Waiting {
     /// The first number of a document that waits.
-    pub(crate) fn first(self) -> u32
-        ensures { (t n : ℕ) → nat_lt n result ≡ true → is_whole (Some self) t n ≡ true }
+    pub(crate) fn first(&self) -> u32
+        ensures { (t n : ℕ) → nat_lt n result ≡ true → is_whole (Some self.now) t n ≡ true }
     {
         match self {
-            Waiting::One(number, _) => number,
-            Waiting::From(first) => first,
+            Waiting::One { number, .. } => *number,
+            Waiting::From(first) => *first,
         }
     }
 }
 
-/// Whether these are more than so many.
-fn are_more(trigrams: &Trigrams, most: usize) -> bool {
-    let mut left = most;
-    for _ in trigrams.iter() {
-        if left == 0 {
-            return true;
+/// Notes that the document that waits alone has come to this trigram, or that it waits no more.
+fn reach(waiting: &mut Option<Waiting>, next: Option<u32>)
+    ensures { ReachesNext waiting.old next waiting.new }
+{
+    match next {
+        None => *waiting = None,
+        Some(trigram) => {
+            if let Some(one) = waiting {
+                if let Waiting::One { from, .. } = one {
+                    *from = trigram;
+                }
+            }
         }
-        left -= 1;
     }
-    false
+}
+
+/// The trigrams of the body before, if there is one, and no trigrams otherwise.
+fn trigrams_of_old<'a>(old: &'a Option<Held>, none: &'a Trigrams) -> &'a Trigrams
+    requires { none.now ≡ [] }
+    ensures { (t : ℕ) → has result.now t ≡ trigrams_before old.now t }
+{
+    match old {
+        Some(held) => held.trigrams(),
+        None => none,
+    }
 }
 
 /// What waits once the document with this number, which is above all others, waits too.
-fn with_waiting(waiting: Option<Waiting>, number: u32) -> Waiting
-    ensures { (t n : ℕ) → is_whole (Some result) t n ≡ true → (is_whole waiting t n ≡ true) × ((number == n) ≡ false) }
+fn with_waiting(waiting: &Option<Waiting>, number: u32) -> Waiting
+    ensures waits { (t n : ℕ) → is_whole (Some result) t n ≡ true → (is_whole waiting.now t n ≡ true) × ((number == n) ≡ false) }
+    ensures none_left { NoneIsLeft (Some result) }
 {
     match waiting {
-        None => Waiting::One(number, 0),
+        None => Waiting::One {
+            number,
+            from: 0,
+            old: None,
+        },
         Some(others) => Waiting::From(others.first().min(number)),
-    }
-}
-
-/// What waits if the document with this number waits for the sets of its trigrams from `next` on.
-fn still_waiting(number: u32, next: Option<u32>) -> Option<Waiting>
-    ensures { (t n : ℕ) → is_whole result t n ≡ (not (n == number) || is_before next t) }
-{
-    match next {
-        Some(trigram) => Some(Waiting::One(number, trigram)),
-        None => None,
     }
 }

@@ -1,6 +1,6 @@
 //! The slots that hold the documents of an index, rising by their numbers.
 
-ghost use Rattle.std.specs.Prelude.{◌≡◌, ◌≢◌, ℕ, ◌<◌, ◌≤◌, length, map, option_map, All, IfSome, IfNone, slice_index_or};
+ghost use Rattle.std.specs.Prelude.{◌≡◌, ◌≢◌, ℕ, ◌<◌, ◌≤◌, length, map, option_map, All, IfSome, IfNone, None, slice_index_or};
 ghost use Rattle.std.specs.Vec.{vec_len, vec_capacity};
 ghost use Rattle.index.specs.declared.slots.Slot.{Slot as SlotValue};
 ghost use Rattle.index.specs.Documents.{document_at};
@@ -37,6 +37,19 @@ pub(crate) fn occupant_at(slots: &[Slot], number: u32) -> Option<&Occupant>
         Some(place) => slots[place].occupant.as_ref(),
         None => None,
     }
+}
+
+/// The number of the first slot whose number is not below this one, if there is one. The slot may be empty.
+pub(crate) fn number_from(slots: &[Slot], first: u32) -> Option<u32>
+    requires { (last : ℕ) × RiseTo last slots.now }
+    ensures some { IfSome result (λ found. (n : ℕ) → first ≤ n → n < found → document_at n (documents_in slots.now) ≡ None) }
+    ensures none { IfNone result ((n : ℕ) → first ≤ n → document_at n (documents_in slots.now) ≡ None) }
+{
+    let place = slots.partition_point(|slot| slot.number < first);
+    if place == slots.len() {
+        return None;
+    }
+    Some(slots[place].number)
 }
 
 /// Takes the document with this number, if there is one, out of its slot. The slot stays, empty.

@@ -1,36 +1,42 @@
 //! What an index keeps of its documents: names and bodies by number, and the sets by which they are found.
 
-ghost use Rattle.std.specs.Prelude.{◌||◌, ◌≡◌, ℕ, false, ◌+◌, ◌<◌, ◌^◌, List, [], ◌∷◌, ◌++◌, length, map, OnOk, IfOk, IsSome};
+ghost use Rattle.std.specs.Prelude.{◌||◌, ◌≡◌, ℕ, false, ◌+◌, ◌<◌, ◌^◌, List, [], ◌∷◌, ◌++◌, length, map, OnOk, IfOk, IfSome, IsSome, IsTrue, None};
 ghost use Rattle.query.specs.Trigrams.{ListsTrigrams};
 ghost use Rattle.index.specs.Documents.{document, document_at};
 ghost use Rattle.index.specs.State.{body_bytes};
+ghost use Rattle.posting.specs.ListValue.{has};
 ghost use Rattle.posting.specs.Postings.{is_listed};
-ghost use Rattle.index.specs.Private.Sets.{is_waiting, is_whole};
-ghost use Rattle.index.specs.Private.Slots.{documents_in, documents_of_slot, without_number, with_body_at};
+ghost use Rattle.index.specs.Private.Sets.{is_waiting, is_whole, trigrams_at, NoneIsLeft};
+ghost use Rattle.index.specs.Private.Slots.{documents_in, documents_of_slot, without_number, with_body_at, RiseTo};
 ghost use Rattle.index.specs.Private.Store.{stored, IsStore, HasPlaceFor, IsReadyFor};
 
 use crate::held::Held;
 use crate::sets::{Change, Sets, Waiting};
-use crate::slots::{Occupant, Slot, compact, exchange, give_back, occupant_at, take};
-use posting::{Entry, Trigrams};
+use crate::slots::{Occupant, Slot, compact, exchange, give_back, number_from, occupant_at, take};
+use posting::{Entry, Trigrams, WHOLE};
 use std::alloc::{AllocError, Global};
 use std::thread::Threads;
 
-/// What it takes to take a document out of its sets is counted in bytes: those of its body, as they stand for its trigrams, times
-/// the numbers that are passed in each set, of which there are as many as to its nearer end, and those behind it, which only move, and
-/// of which `MOVED` count as one. For each set `PASSED_FIRST` more count.
+/// For bodies whose trigrams are kept in more bytes, together, it is not looked for what they have in common.
+const MANY_BYTES: usize = 262_144;
+
+/// More work is too much for one piece, in bytes of bodies, if a body is replaced.
+const LONG: usize = 4_096;
+
+/// The same if a document is taken out. Less is not counted.
+const SHORT: usize = 512;
+
+/// To take a number out of a set, the numbers to its nearer end are passed, and those behind it move, of which so many count as one.
 const MOVED: usize = 64;
 
-const PASSED_FIRST: usize = 80;
+/// To put documents into empty sets counts as so much for each byte in which their trigrams are kept, and as so much for each
+/// document. By measurement this holds for 2,000 documents of 300 bytes, for 20,000 of 1,500 and for Go's tree.
+const FOR_A_BYTE: usize = 2;
 
-/// To put documents into empty sets takes about as long as to pass so many numbers in each of their sets, where each document counts as
-/// `BYTES_OF_ONE` bytes more. By measurement this holds for 2,000 documents of 300 bytes, and about for 20,000 of 1,500.
-const PASSED: usize = 40;
+const FOR_A_DOCUMENT: usize = 128;
 
-const BYTES_OF_ONE: usize = 256;
-
-/// A change is large if a trigram comes or goes for each so many bytes of the body: a usual text has a trigram for each eight bytes.
-const BYTES_FOR_A_CHANGE: usize = 32;
+/// Less work is never too much, whatever there is: it takes less than a millisecond.
+const LEAST: usize = 8_192;
 
 /// The documents of an index, with their sets.
 #[derive(Drop)]
@@ -43,10 +49,12 @@ pub(crate) struct Store {
     pub(crate) count: usize,
     /// The total length of all bodies, in bytes.
     pub(crate) held_bytes: u64,
-    /// Whether `fill` follows. No contract depends on it.
+    /// In how many bytes the trigrams of all bodies are kept, together. No contract depends on it, nor on the next two.
+    pub(crate) trigram_bytes: usize,
+    /// Whether `fill` follows.
     pub(crate) expects_fill: bool,
-    /// What it has taken since then to take documents out of their sets, in bytes.
-    taken: usize,
+    /// What it has taken since then to take documents out of their sets, in bytes of bodies.
+    pub(crate) taken: usize,
 }
 
 impl Store {
@@ -60,6 +68,7 @@ impl Store {
             sets: Sets::new(alloc),
             count: 0,
             held_bytes: 0,
+            trigram_bytes: 0,
             expects_fill: false,
             taken: 0,
         }
@@ -68,24 +77,27 @@ impl Store {
     /// Makes room for a document with this number and these trigrams. An `Err` means that memory ran out. The
     /// documents stay as they are in either case.
     pub(crate) fn make_room(&mut self, number: u32, trigrams: &Trigrams) -> Result<(), AllocError>
+        requires { (last : ℕ) × IsStore last self.old }
         ensures documents { stored self.new ≡ stored self.old }
         ensures store { (last : ℕ) → IsStore last self.old → IsStore last self.new }
         ensures ok { OnOk result ((body : List ℕ) → ListsTrigrams body trigrams.now → HasPlaceFor self.new number body) }
     {
+        self.finish()?;
         self.slots.reserve(1)?;
         self.sets.make_room(number, trigrams)
     }
 
-    /// Takes out the document with this number, if there is one, and drops it. This takes no memory, and gives back what
-    /// the other documents do not need; room that was made may go with it. Where `fill` follows, and this has taken about as long
-    /// as it takes to put all that are left into empty sets, the sets are emptied, and all documents wait.
-    pub(crate) fn take_out(&mut self, number: u32)
+    /// Takes out the document with this number, if there is one. If that is much work, `later` is asked for and nothing waits yet,
+    /// its number waits to be taken out of the sets of its trigrams, and it is dropped then. This takes no memory, and gives back what
+    /// the other documents do not need; room that was made may go with it. Where `fill` follows, and this has taken about as long as it
+    /// takes to put all that are left into empty sets, the sets are emptied, and all documents wait.
+    pub(crate) fn take_out(&mut self, number: u32, later: bool)
         requires { (last : ℕ) × IsStore last self.old }
         ensures documents { stored self.new ≡ without_number number (stored self.old) }
         ensures store { (last : ℕ) → IsStore last self.old → IsStore last self.new }
     {
         self.count_taken(number);
-        self.take_out_now(number);
+        self.take_out_now(number, later);
     }
 
     /// Counts what it takes to take out the document with this number. If it is too much, and `fill` follows, the sets are emptied.
@@ -97,65 +109,80 @@ impl Store {
         if !self.expects_fill || self.sets.has_waiting(number) {
             return;
         }
-        let bytes = self.bytes_of(number);
-        self.taken = self.taken.saturating_add(self.work_of(number, bytes));
-        if self.is_too_much() {
-            self.start_over();
-        }
+        self.taken = self.taken.saturating_add(self.work_of_all(number));
+        self.start_over_if_too_much();
     }
 
     /// Takes out the document with this number, if there is one.
-    fn take_out_now(&mut self, number: u32)
+    fn take_out_now(&mut self, number: u32, later: bool)
         requires { (last : ℕ) × IsStore last self.old }
         ensures documents { stored self.new ≡ without_number number (stored self.old) }
         ensures store { (last : ℕ) → IsStore last self.old → IsStore last self.new }
     {
         if let Some(occupant) = take(&mut self.slots, number) {
-            self.sets.take_out(number, occupant.held.trigrams());
             self.held_bytes -= occupant.held.body().as_bytes().len() as u64;
             self.count -= 1;
+            self.trigram_bytes = less_by(self.trigram_bytes, &occupant.held);
+            let is_long = self.work_of(number, occupant.held.trigrams()) > SHORT;
+            self.sets.take_out(number, occupant.held, later & is_long);
             compact(&mut self.slots, self.count);
             give_back(&mut self.slots);
         }
     }
 
-    /// The bytes of the document with this number, if there is one.
-    fn bytes_of(&self, number: u32) -> usize
+    /// What it takes to take out the document with this number, if there is one.
+    fn work_of_all(&self, number: u32) -> usize
         requires { (last : ℕ) × IsStore last self.now }
     {
         match occupant_at(&self.slots, number) {
-            Some(occupant) => occupant.held.body().as_bytes().len(),
+            Some(occupant) => self.work_of(number, occupant.held.trigrams()),
             None => 0,
         }
     }
 
-    /// What it takes to take out the document with this number, of so many bytes.
-    fn work_of(&self, number: u32, bytes: usize) -> usize {
+    /// What it takes to change the sets of these trigrams for the document with this number.
+    fn work_of(&self, number: u32, trigrams: &Trigrams) -> usize {
+        self.sets.postings.work(trigrams, self.share(number))
+    }
+
+    /// Which part of a set is passed to take out this number, in parts of `WHOLE`, as if each set had as many below it.
+    fn share(&self, number: u32) -> usize {
         let (first, last) = match (self.slots.first(), self.slots.last()) {
             (Some(first), Some(last)) => (first.number, last.number),
             _ => (0, 0),
         };
-        let behind = (last.saturating_sub(number) as usize).min(self.count);
-        let passed = behind.min(number.saturating_sub(first) as usize);
-        let counted = passed
-            .saturating_add(behind / MOVED)
-            .saturating_add(PASSED_FIRST);
-        counted.saturating_mul(bytes)
+        let behind = last.saturating_sub(number) as usize;
+        let before = number.saturating_sub(first) as usize;
+        let passed = behind.min(before).saturating_add(behind / MOVED);
+        let parts = passed.saturating_mul(WHOLE);
+        parts
+            .checked_div(behind.saturating_add(before))
+            .unwrap_or(0)
     }
 
     /// Whether it has taken about as long as to put all documents into empty sets.
     fn is_too_much(&self) -> bool {
-        let bytes = self
-            .count
-            .saturating_mul(BYTES_OF_ONE)
-            .saturating_add(self.held_bytes as usize);
-        self.taken / PASSED > bytes
+        let documents = self.count.saturating_mul(FOR_A_DOCUMENT);
+        let trigrams = self.trigram_bytes.saturating_mul(FOR_A_BYTE);
+        self.taken > documents.saturating_add(trigrams).max(LEAST)
+    }
+
+    /// Empties the sets, and has all documents wait, if it has taken about as long as to put them into empty sets. The documents stay
+    /// as they are. It needs no memory.
+    pub(crate) fn start_over_if_too_much(&mut self)
+        ensures documents { stored self.new ≡ stored self.old }
+        ensures store { (last : ℕ) → IsStore last self.old → IsStore last self.new }
+    {
+        if self.is_too_much() {
+            self.start_over();
+        }
     }
 
     /// Empties the sets, and has all documents wait for `fill`. The documents stay as they are. It needs no memory.
     fn start_over(&mut self)
         ensures documents { stored self.new ≡ stored self.old }
         ensures waits { (t n : ℕ) → is_whole self.new.sets.waiting t n ≡ false }
+        ensures none_left { NoneIsLeft self.new.sets.waiting }
         ensures store { (last : ℕ) → IsStore last self.old → IsStore last self.new }
     {
         let alloc = *self.slots.allocator();
@@ -173,6 +200,7 @@ impl Store {
     {
         self.sets.put_in(number, occupant.held.trigrams());
         self.held_bytes += occupant.held.body().as_bytes().len() as u64;
+        self.trigram_bytes = more_by(self.trigram_bytes, &occupant.held);
         self.count += 1;
         self.slots.push_reserved(Slot {
             number,
@@ -190,6 +218,7 @@ impl Store {
     {
         self.sets.put_later(number);
         self.held_bytes += occupant.held.body().as_bytes().len() as u64;
+        self.trigram_bytes = more_by(self.trigram_bytes, &occupant.held);
         self.count += 1;
         self.slots.push_reserved(Slot {
             number,
@@ -204,12 +233,14 @@ impl Store {
         rt: &R,
         threads: usize,
     ) -> Result<(), AllocError>
+        requires { (last : ℕ) × IsStore last self.old }
         ensures documents { stored self.new ≡ stored self.old }
         ensures store { (last : ℕ) → IsStore last self.old → IsStore last self.new }
     {
         self.expects_fill = false;
         self.taken = 0;
-        let Some(waiting) = self.sets.waiting else {
+        self.finish()?;
+        let Some(waiting) = &self.sets.waiting else {
             return Ok(());
         };
         let alloc = *self.slots.allocator();
@@ -224,27 +255,121 @@ impl Store {
         }
     }
 
-    /// Puts the document that waits alone, if one does, into at most `most` more of the sets of its trigrams. Returns how many of
-    /// `most` are left; if that is not 0, it waits no more. An `Err` means that memory ran out. The documents stay as they are in
-    /// either case.
+    /// Goes on with what waits: as `fill_one`, and puts documents from a number on that wait into the sets of their trigrams, one
+    /// after the other, each whole. Returns how much of `most` is left; if that is not 0, none waits any more. An `Err` means that
+    /// memory ran out. The documents stay as they are in either case.
     pub(crate) fn fill_some(&mut self, most: usize) -> Result<usize, AllocError>
         requires { (last : ℕ) × IsStore last self.old }
         ensures documents { stored self.new ≡ stored self.old }
         ensures store { (last : ℕ) → IsStore last self.old → IsStore last self.new }
     {
-        let Some(Waiting::One(number, from)) = self.sets.waiting else {
-            return Ok(most);
-        };
-        match occupant_at(&self.slots, number) {
-            Some(occupant) => {
-                self.sets
-                    .put_some(number, occupant.held.trigrams(), from, most)
-            }
-            None => {
-                self.sets.waiting = None;
-                Ok(most)
-            }
+        let left = self.fill_one(most)?;
+        self.fill_from(left)
+    }
+
+    fn fill_from(&mut self, most: usize) -> Result<usize, AllocError>
+        requires { (last : ℕ) × IsStore last self.old }
+        ensures documents { stored self.new ≡ stored self.old }
+        ensures store { (last : ℕ) → IsStore last self.old → IsStore last self.new }
+    {
+        let none = Trigrams::new(*self.slots.allocator(), &[])?;
+        let mut left = most;
+        while left > 0 {
+            let Some(work) = self.fill_next(&none)? else {
+                return Ok(left);
+            };
+            left = left.saturating_sub(work);
         }
+        Ok(0)
+    }
+
+    /// Puts the first document that waits into the sets of its trigrams, if documents from a number on wait. `none` are no trigrams.
+    /// Returns how much work that was, `None` if none of them waits any more. An `Err` means that memory ran out. The documents stay
+    /// as they are in either case.
+    fn fill_next(&mut self, none: &Trigrams) -> Result<Option<usize>, AllocError>
+        requires store { (last : ℕ) × IsStore last self.old }
+        requires none { none.now ≡ [] }
+        ensures documents { stored self.new ≡ stored self.old }
+        ensures store { (last : ℕ) → IsStore last self.old → IsStore last self.new }
+        ensures work { IfOk result (λ done. IfSome done (λ work. 0 < work)) }
+    {
+        let first = match &self.sets.waiting {
+            Some(Waiting::From(first)) => *first,
+            _ => return Ok(None),
+        };
+        let Some(number) = number_from(&self.slots, first) else {
+            self.sets.waiting = None;
+            return Ok(None);
+        };
+        let trigrams = trigrams_of(&self.slots, number, none);
+        let work = self.sets.put_next(number, trigrams, none)?;
+        Ok(Some(work))
+    }
+
+    /// Goes on with the document that waits alone, if one does: puts it into the sets of its trigrams and takes it out of those
+    /// of the body before, in pieces (`Sets::move_some`). Returns how much of `most` is left; if that is not 0, it waits no more. An
+    /// `Err` means that memory ran out. The documents stay as they are in either case.
+    pub(crate) fn fill_one(&mut self, most: usize) -> Result<usize, AllocError>
+        requires { (last : ℕ) × IsStore last self.old }
+        ensures documents { stored self.new ≡ stored self.old }
+        ensures store { (last : ℕ) → IsStore last self.old → IsStore last self.new }
+    {
+        let (number, is_replaced) = match &self.sets.waiting {
+            Some(Waiting::One { number, old, .. }) => (*number, old.is_some()),
+            _ => return Ok(most),
+        };
+        let left = self.move_waiting(number, most)?;
+        if is_replaced && self.expects_fill {
+            self.taken = self.taken.saturating_add(most.saturating_sub(left));
+        }
+        Ok(left)
+    }
+
+    /// The same for the document with this number, if it is the one that waits alone.
+    fn move_waiting(&mut self, number: u32, most: usize) -> Result<usize, AllocError>
+        requires { (last : ℕ) × IsStore last self.old }
+        ensures documents { stored self.new ≡ stored self.old }
+        ensures store { (last : ℕ) → IsStore last self.old → IsStore last self.new }
+    {
+        let none = Trigrams::new(*self.slots.allocator(), &[])?;
+        let share = self.share(number);
+        let trigrams = trigrams_of(&self.slots, number, &none);
+        self.sets.move_some(number, trigrams, &none, most, share)
+    }
+
+    /// Sees to it that no document is left in sets of a body that it no longer has. An `Err` means that memory ran out. The
+    /// documents stay as they are in either case.
+    fn finish(&mut self) -> Result<(), AllocError>
+        requires { (last : ℕ) × IsStore last self.old }
+        ensures documents { stored self.new ≡ stored self.old }
+        ensures store { (last : ℕ) → IsStore last self.old → IsStore last self.new }
+        ensures ok { OnOk result (NoneIsLeft self.new.sets.waiting) }
+    {
+        if !self.sets.has_left() {
+            return Ok(());
+        }
+        self.fill_one(usize::MAX)?;
+        if self.sets.has_left() {
+            return Err(AllocError);
+        }
+        Ok(())
+    }
+
+    /// Whether a body with these trigrams has many that the document with this number has not, or the other way round. An `Err`
+    /// means that memory ran out. No contract depends on it.
+    pub(crate) fn changes_much(&self, number: u32, new: &Trigrams) -> Result<bool, AllocError>
+        requires { (last : ℕ) × IsStore last self.now }
+    {
+        let Some(occupant) = occupant_at(&self.slots, number) else {
+            return Ok(false);
+        };
+        let old = occupant.held.trigrams();
+        if old.size().saturating_add(new.size()) > MANY_BYTES {
+            return Ok(true);
+        }
+        let (fresh, gone) = new.differences(old)?;
+        let work = self.work_of(number, &fresh);
+        Ok(work.saturating_add(self.work_of(number, &gone)) > LONG)
     }
 
     /// Makes room for the document with this number to have a body with these trigrams in place of its own. An `Err`
@@ -256,6 +381,7 @@ impl Store {
         ensures store { (last : ℕ) → IsStore last self.old → IsStore last self.new }
         ensures ok { IfOk result (λ change. (body : List ℕ) → ListsTrigrams body trigrams.now → IsReadyFor self.new number body change) }
     {
+        self.finish()?;
         match occupant_at(&self.slots, number) {
             Some(occupant) => self
                 .sets
@@ -264,13 +390,14 @@ impl Store {
         }
     }
 
-    /// What it has taken, with what it takes to change the document with this number so, which has so many bytes then: as much as to
-    /// take it out, where the change is large.
-    fn taken_with(&self, number: u32, change: &Change, bytes: usize) -> usize {
-        if !self.expects_fill || !change.has_more(bytes / BYTES_FOR_A_CHANGE) {
+    /// What it has taken, with what it takes to change the document with this number so.
+    fn taken_with(&self, number: u32, change: &Change) -> usize {
+        if !self.expects_fill {
             return self.taken;
         }
-        self.taken.saturating_add(self.work_of(number, bytes))
+        let work = self.work_of(number, &change.fresh);
+        let more = work.saturating_add(self.work_of(number, &change.gone));
+        self.taken.saturating_add(more)
     }
 
     /// Replaces the body of the document with this number, for which there is room. Where `fill` follows, and
@@ -282,7 +409,7 @@ impl Store {
         ensures documents { stored self.new ≡ map (with_body_at number held) (stored self.old) }
         ensures store { (last : ℕ) → IsStore last self.old → IsStore last self.new }
     {
-        self.taken = self.taken_with(number, change, held.body().as_bytes().len());
+        self.taken = self.taken_with(number, change);
         if self.is_too_much() {
             self.start_over();
             self.replace_later(number, held);
@@ -290,8 +417,10 @@ impl Store {
         }
         self.sets.replace(number, change);
         self.held_bytes += held.body().as_bytes().len() as u64;
+        self.trigram_bytes = more_by(self.trigram_bytes, &held);
         if let Some(old) = exchange(&mut self.slots, number, held) {
             self.held_bytes -= old.body().as_bytes().len() as u64;
+            self.trigram_bytes = less_by(self.trigram_bytes, &old);
         }
     }
 
@@ -301,16 +430,71 @@ impl Store {
         requires store { (last : ℕ) × IsStore last self.old }
         requires there { IsSome (document_at number (stored self.old)) }
         requires waits { (t : ℕ) → is_whole self.old.sets.waiting t number ≡ false }
+        requires none_left { NoneIsLeft self.old.sets.waiting }
         requires bytes { body_bytes (stored self.old) + length held < 2 ^ 64 }
         ensures documents { stored self.new ≡ map (with_body_at number held) (stored self.old) }
         ensures store { (last : ℕ) → IsStore last self.old → IsStore last self.new }
     {
         self.held_bytes += held.body().as_bytes().len() as u64;
+        self.trigram_bytes = more_by(self.trigram_bytes, &held);
         if let Some(old) = exchange(&mut self.slots, number, held) {
             self.sets.withdraw(number, old.trigrams());
             self.held_bytes -= old.body().as_bytes().len() as u64;
+            self.trigram_bytes = less_by(self.trigram_bytes, &old);
         }
     }
+
+    /// Replaces the body of the document with this number. Its number then waits to be moved to the sets of the trigrams of the new
+    /// one. Nothing waits yet.
+    pub(crate) fn replace_in_pieces(&mut self, number: u32, held: Held)
+        requires store { (last : ℕ) × IsStore last self.old }
+        requires idle { self.old.sets.waiting ≡ None }
+        requires there { IsSome (document_at number (stored self.old)) }
+        requires bytes { body_bytes (stored self.old) + length held < 2 ^ 64 }
+        ensures documents { stored self.new ≡ map (with_body_at number held) (stored self.old) }
+        ensures store { (last : ℕ) → IsStore last self.old → IsStore last self.new }
+    {
+        self.held_bytes += held.body().as_bytes().len() as u64;
+        self.trigram_bytes = more_by(self.trigram_bytes, &held);
+        if let Some(old) = exchange(&mut self.slots, number, held) {
+            self.held_bytes -= old.body().as_bytes().len() as u64;
+            self.trigram_bytes = less_by(self.trigram_bytes, &old);
+            self.sets.waiting = Some(Waiting::One {
+                number,
+                from: 0,
+                old: Some(old),
+            });
+        }
+    }
+
+    /// Whether nothing waits.
+    pub(crate) fn is_idle(&self) -> bool
+        ensures { IsTrue result → self.now.sets.waiting ≡ None }
+    {
+        self.sets.waiting.is_none()
+    }
+}
+
+/// The trigrams of the document with this number; `none`, which are no trigrams, if there is no such document.
+fn trigrams_of<'a>(slots: &'a [Slot], number: u32, none: &'a Trigrams) -> &'a Trigrams
+    requires rise { (last : ℕ) × RiseTo last slots.now }
+    requires none { none.now ≡ [] }
+    ensures { (t : ℕ) → has result.now t ≡ trigrams_at (documents_in slots.now) number t }
+{
+    match occupant_at(slots, number) {
+        Some(occupant) => occupant.held.trigrams(),
+        None => none,
+    }
+}
+
+/// So many bytes, and those in which the trigrams of this body are kept.
+fn more_by(bytes: usize, held: &Held) -> usize {
+    bytes.saturating_add(held.trigrams().size())
+}
+
+/// So many bytes without those in which the trigrams of this body are kept.
+fn less_by(bytes: usize, held: &Held) -> usize {
+    bytes.saturating_sub(held.trigrams().size())
 }
 
 /// The numbers of the documents from the number `first` on, each with its trigrams.

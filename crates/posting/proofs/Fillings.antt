@@ -289,37 +289,6 @@ listed_more entries at t n is =
     ∙ list_any-append (λ (x : Entry). has x.trigrams.now t && x.number == n) (take at entries) (drop at entries)
     ∙ or_left (is_listed (take at entries) t n) (is_listed (drop at entries) t n) is
 
-pub grows_entry : (first : ℕ) (old now new : List (List NumberSet)) (entries : List Entry) (at : ℕ) (e : Entry) → at < length entries → e ≡ get_or entries at e
-    → Grows first old now (is_listed (take at entries)) → Grows first now new (λ t n. has e.trigrams.now t && e.number == n)
-    → Grows first old new (is_listed (take (at + 1) entries))
-grows_entry first old now new entries at e inside is one then =
-    grows_on first old now new (is_listed (take at entries)) (λ t n. has e.trigrams.now t && e.number == n) (is_listed (take (at + 1) entries)) one then
-    (λ t n there. entry_next entries at e inside is t n ∙ or_left (is_listed (take at entries) t n) (has e.trigrams.now t && e.number == n) there)
-    (λ t n there. entry_next entries at e inside is t n ∙ or_right (is_listed (take at entries) t n) (has e.trigrams.now t && e.number == n) there)
-
-pub fills_entry : (first : ℕ) (now new : List (List NumberSet)) (entries : List Entry) (at : ℕ) (e : Entry) → at < length entries → e ≡ get_or entries at e
-    → Fills first now (is_listed (take at entries)) → Grows first now new (λ t n. has e.trigrams.now t && e.number == n)
-    → Fills first new (λ t n. has e.trigrams.now t && e.number == n) → Fills first new (is_listed (take (at + 1) entries))
-fills_entry first now new entries at e inside is one grown then =
-    fills_on first now new (is_listed (take at entries)) (λ t n. has e.trigrams.now t && e.number == n) (is_listed (take (at + 1) entries)) one grown then
-    (λ t n there. sym (entry_next entries at e inside is t n) ∙ there)
-
--- a part of the list is part of it all
-pub grows_whole : (first : ℕ) (old new : List (List NumberSet)) (entries : List Entry) (at : ℕ) → Grows first old new (is_listed (take at entries))
-    → Grows first old new (is_listed entries)
-grows_whole first old new entries at grown =
-    grows_on first old new new (is_listed (take at entries)) (is_listed (take at entries)) (is_listed entries) grown
-    (grows_none first new (is_listed (take at entries))) (λ t n. listed_more entries at t n) (λ t n. listed_more entries at t n)
-
--- where the trigram is in none of these parts
-pub fills_outside : (first : ℕ) (parts : List (List NumberSet)) (u number : ℕ) → u < trigram_count → (part_of u < first) ⊎ (first + length parts ≤ part_of u)
-    → Fills first parts (λ t n. u == t && number == n)
-fills_outside first parts u number below outside = record { bound = λ t n. of_one u number t n below; all = λ t n among is. absurd (clash t among (and_left (u == t) (number == n) is) outside) }
-  where
-    clash : (t : ℕ) → IsAmong first (length parts) t → (u == t) ≡ true → (part_of u < first) ⊎ (first + length parts ≤ part_of u) → ⊥
-    clash t among same (inl low) = let e : u ≡ t = grind (arith, nat_tests, same) in omega (arith, among.from, rw e at low)
-    clash t among same (inr high) = let e : u ≡ t = grind (arith, nat_tests, same) in omega (arith, among.before, rw e at high)
-
 -- both have gone well
 pub fills_both : {S T U E : Type 0} (first next : ℕ) (xs ys : List (List NumberSet)) (more : ℕ → ℕ → Bool) (one : Result S E) (other : Result T E) (r : Result U E)
     → next ≡ first + length xs → OnOk one (Fills first xs more) → OnOk other (Fills next ys more) → OnOk r (IsOk one) → OnOk r (IsOk other)

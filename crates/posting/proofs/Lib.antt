@@ -17,5 +17,5 @@ pub mod PartLemmas
 pub mod Fillings
 pub mod Moving
 pub mod Changes
-pub mod Pieces
+pub mod Moves
 pub mod Selection

@@ -8,7 +8,7 @@ use Rattle.posting.specs.declared.filling.Left.{Left}
 use Rattle.posting.specs.Postings.{NumberSet}
 use Rattle.posting.specs.Private.Pages.{trigram_count}
 use Rattle.posting.specs.Private.Parts.{holds_among, IsAmong, Grows, Fills, Moves, is_left}
-use Rattle.posting.proofs.Fillings.{one_of_two, or_left, or_right, grows_none, grows_on, fills_on}
+use Rattle.posting.proofs.Fillings.{one_of_two, or_left, or_right, grows_none, grows_on}
 
 either_and : (a b c : Bool) → ((a || b) && c) ≡ true → ((a && c) || (b && c)) ≡ true
 either_and true b true is = refl
@@ -32,33 +32,6 @@ pub grows_wider : (first : ℕ) (old new : List (List NumberSet)) (a b : ℕ →
 grows_wider first old new a b grown wider = grows_on first old new new a a b grown (grows_none first new a) wider wider
 
 -- ---- one after the other
-
-pub moves_none : (first : ℕ) (parts : List (List NumberSet)) (a : ℕ → ℕ → Bool) → Moves first parts parts a a
-moves_none first parts a = record {
-  grown = grows_none first parts a;
-  got = λ t n among is. or_right (holds_among first parts t n) (a t n) is;
-  fewer = λ t n is. is;
-  bound = λ t n is. inr is;
-}
-
--- what is left of one is what was left of the other
-pub moves_on : (first : ℕ) (old now new : List (List NumberSet)) (a b c : ℕ → ℕ → Bool) → Moves first old now a b → Moves first now new b c
-    → Moves first old new a c
-moves_on first old now new a b c one then = record {
-  grown = grows_on first old now new a b a one.grown then.grown (λ t n is. is) one.fewer;
-  got = λ t n among is.
-      one_of_two (holds_among first now t n) (b t n) (one.got t n (back t among) is)
-      (λ held. or_left (holds_among first new t n) (c t n) (then.grown.kept t n (back t among) held)) (λ left. then.got t n among left);
-  fewer = λ t n is. one.fewer t n (then.fewer t n is);
-  bound = λ t n is. bound t n (one.bound t n is);
-}
-  where
-    bound : (t n : ℕ) → (t < trigram_count) ⊎ (b t n ≡ true) → (t < trigram_count) ⊎ (c t n ≡ true)
-    bound t n (inl below) = inl below
-    bound t n (inr left) = then.bound t n left
-
-    back : (t : ℕ) → IsAmong first (length new) t → IsAmong first (length now) t
-    back t among = rw (sym then.grown.count) among
 
 -- one beside the other
 pub moves_beside : (first : ℕ) (old now new : List (List NumberSet)) (a b c d all left : ℕ → ℕ → Bool) → Moves first old now a b → Moves first now new c d
@@ -105,20 +78,6 @@ pub grows_head : (first : ℕ) (now new : List (List NumberSet)) (m number : ℕ
 grows_head first now new m number rest grown =
     grows_wider first now new (λ t n. m == t && number == n) (left_of number (m ∷ rest)) grown (λ t n is. left_and (m == t) (has rest t) (number == n) is)
 
-pub moves_head : (first : ℕ) (now new : List (List NumberSet)) (m number : ℕ) (rest : List ℕ) → Grows first now new (λ t n. m == t && number == n)
-    → Fills first new (λ t n. m == t && number == n) → Moves first now new (left_of number (m ∷ rest)) (left_of number rest)
-moves_head first now new m number rest grown filled = record {
-  grown = grows_head first now new m number rest grown;
-  got = λ t n among is.
-      one_of_two (m == t && number == n) (has rest t && number == n) (either_and (m == t) (has rest t) (number == n) is)
-      (λ here. or_left (holds_among first new t n) (left_of number rest t n) (filled.all t n among here))
-      (λ left. or_right (holds_among first new t n) (left_of number rest t n) left);
-  fewer = λ t n is. right_and (m == t) (has rest t) (number == n) is;
-  bound = λ t n is.
-      one_of_two (m == t && number == n) (has rest t && number == n) (either_and (m == t) (has rest t) (number == n) is) (λ here. inl (filled.bound t n here))
-      (λ left. inr left);
-}
-
 -- ---- entry by entry
 
 left_next : (xs : List Left) (x : Left) (t n : ℕ) → is_left (xs ++ x ∷ []) t n ≡ (is_left xs t n || left_of x.number x.trigrams t n)
@@ -147,21 +106,7 @@ grows_some first old now new past later x one then =
     ∙ or_right (is_left past t n) (left_of x.number x.trigrams t n || is_left later t n)
     (or_left (left_of x.number x.trigrams t n) (is_left later t n) is))
 
-pub grows_one_more : (first : ℕ) (old now new : List (List NumberSet)) (past : List Left) (x : Left) → Grows first old now (is_left past)
-    → Grows first now new (left_of x.number x.trigrams) → Grows first old new (is_left (past ++ x ∷ []))
-grows_one_more first old now new past x one then = grows_some first old now new past [] x one then
-
-pub fills_one_more : (first : ℕ) (now new : List (List NumberSet)) (past : List Left) (x : Left) → Fills first now (is_left past)
-    → Grows first now new (left_of x.number x.trigrams) → Fills first new (left_of x.number x.trigrams) → Fills first new (is_left (past ++ x ∷ []))
-fills_one_more first now new past x one grown then =
-    fills_on first now new (is_left past) (left_of x.number x.trigrams) (is_left (past ++ x ∷ [])) one grown then (λ t n is. sym (left_next past x t n) ∙ is)
-
 -- ---- all entries
-
--- what is got but for what is left, and then what is left
-pub moves_all : (first : ℕ) (old now new : List (List NumberSet)) (a b : ℕ → ℕ → Bool) → Moves first old now a b → Grows first now new b
-    → Grows first old new a
-moves_all first old now new a b one then = grows_on first old now new a b a one.grown then (λ t n is. is) one.fewer
 
 pub fills_all : (first : ℕ) (old now new : List (List NumberSet)) (a b : ℕ → ℕ → Bool) → Moves first old now a b → Grows first now new b → Fills first new b
     → Fills first new a

@@ -69,6 +69,19 @@ is_before (Some next) trigram = nat_lt trigram next
 abbrev pub WithdrawsNumber : List NumberSet → List NumberSet → List ℕ → ℕ → Type 0
 WithdrawsNumber old new trigrams number = (trigram n : ℕ) → holds new trigram n ≡ (holds old trigram n && not (has trigrams trigram && n == number))
 
+-- The number was taken out of some of the sets of the old trigrams that the new ones have not, and put into some of those of the new
+-- trigrams that the old ones have not.
+pub record MovesNumber (before after : List NumberSet) (number : ℕ) (old new : List ℕ) : Type 0 where
+  pub kept : (trigram n : ℕ) → holds before trigram n ≡ true → (holds after trigram n || ((has old trigram && not (has new trigram)) && number == n)) ≡ true
+  pub grown : (trigram n : ℕ) → holds after trigram n ≡ true → (holds before trigram n || ((has new trigram && not (has old trigram)) && number == n)) ≡ true
+
+-- That is done for the trigrams from `from` on and before the next one.
+pub record IsMovedUntil (table : List NumberSet) (number : ℕ) (old new : List ℕ) (from : ℕ) (next : Option ℕ) : Type 0 where
+  pub put : (trigram : ℕ) → from ≤ trigram → is_before next trigram ≡ true → has new trigram ≡ true → has old trigram ≡ false
+      → holds table trigram number ≡ true
+  pub gone : (trigram : ℕ) → from ≤ trigram → is_before next trigram ≡ true → has new trigram ≡ false → has old trigram ≡ true
+      → holds table trigram number ≡ false
+
 -- If the set of one of these trigrams has no number, it has no memory but its slot.
 abbrev pub GivesBack : List NumberSet → List ℕ → Type 0
 GivesBack table trigrams =

@@ -5,3 +5,4 @@ pub mod Pages
 pub mod Parts
 pub mod Selection
 pub mod Sets
+pub mod Moves

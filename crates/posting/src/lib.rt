@@ -15,5 +15,5 @@ mod trigrams;
 pub use filling::Entry;
 pub use laws::prepared_sets_have_room;
 pub use list::{List, Lookup, Numbers};
-pub use postings::Postings;
+pub use postings::{Postings, WHOLE};
 pub use trigrams::{Trigrams, TrigramsIterator};

@@ -6,23 +6,33 @@ ghost use Rattle.query.specs.Query.{formula_of, formulas_of, texts, all_of, one_
 ghost use Rattle.query.specs.Pairs.{texts_in};
 ghost use Rattle.posting.specs.ListValue.{has, without};
 ghost use Rattle.posting.specs.Postings.{slot_limit, set_of, holds, IsPrepared, IsAbsent, AllDiffer};
-ghost use Rattle.posting.specs.Postings.{SameSets, KeepsRoom, is_listed, is_before, AddsNumber, WithdrawsNumber, GivesBack, selected, trigrams_with};
+ghost use Rattle.posting.specs.Postings.{SameSets, KeepsRoom, is_listed, AddsNumber, WithdrawsNumber, GivesBack, MovesNumber, IsMovedUntil, selected, trigrams_with};
+ghost use Rattle.posting.specs.Private.Moves.{MovesIn, IsMovedIn};
 ghost use Rattle.posting.specs.Private.Sets.{members_of};
 ghost use Rattle.posting.specs.Private.Selection.{Finds};
 
 use crate::filling::{Entry, fill_parts, put};
-use crate::list::{List, union_of};
+use crate::list::{List, Taken, union_of};
 use crate::part::{PARTS, Part, Set, part_of, place_in_part};
-use crate::trigrams::Trigrams;
+use crate::trigrams::{Trigrams, lower_trigram};
 use query::{Pairs, Query, Trigram, trigrams_in_turn};
 use std::alloc::{AllocError, Global};
 use std::marker::Model;
 use std::thread::Threads;
 
+/// A share of a set is given in so many parts.
+pub const WHOLE: usize = 256;
+
+/// What it counts as to change a set, in bytes of bodies, if no number is passed.
+const SET_WORK: usize = 8;
+
+/// How many numbers that are passed count as a byte of a body. By measurement it takes as long to change a set as to pass 80.
+const PASSED_FOR_A_BYTE: usize = 10;
+
 /// A set of numbers for each trigram.
 ///
-/// The head of list.rt says how the sets lie in memory. `withdraw` gives memory back: that of the list of a set that has at most
-/// one number below 2^31 afterwards, and room and pages that few sets use.
+/// The head of list.rt says how the sets lie in memory. `withdraw` and `move_some` give memory back: that of the list of a set that
+/// has at most one number below 2^31 afterwards, and room and pages that few sets use.
 ///
 /// Contracts see it as a table of sets by the trigrams' numbers. A set has its numbers, and a limit: `prepare` raises the limit
 /// above a number, and `add` puts the number in.
@@ -66,7 +76,7 @@ impl Postings {
     /// their numbers.
     ///
     /// An `Err` means that memory ran out. Some sets may then have room already. A `withdraw` from these sets frees
-    /// the room of those that are empty, and may free that of the others.
+    /// the room of those that are empty, and may free that of the others, as a `move_some` may.
     pub fn prepare(&mut self, number: u32, trigrams: &Trigrams) -> Result<(), AllocError>
         ensures sets { SameSets self.old self.new }
         ensures room { KeepsRoom self.old self.new }
@@ -122,32 +132,86 @@ impl Postings {
         fill_parts(rt, alloc, threads, 0, self.parts.as_mut_slice(), entries)
     }
 
-    /// Puts the number into the sets of these trigrams from the trigram `from` on, into at most `most` sets. A number that is in a
-    /// set already stays there. Returns the first trigram into whose set it did not get, `None` if there is none, and how many of
-    /// `most` are left.
+    /// Moves the number from the sets of the old trigrams to those of the new ones, for the trigrams from `from` on in their
+    /// order: takes it out of the sets of trigrams that only the old ones have, and puts it into those of trigrams that only the new
+    /// ones have. This goes on until the work comes to `most`, where a set that changes counts as in `work` with this `share`, and a
+    /// trigram that both have, whose set stays, counts 1. Returns the first trigram that is not reached, `None` if there is none, and
+    /// how much of `most` is left.
     ///
-    /// An `Err` means that memory ran out. The number may then be in some of the sets; no set has lost a number.
-    pub fn put_some(
+    /// An `Err` means that memory ran out. Some of the sets may then have changed, each as it is to.
+    pub fn move_some(
         &mut self,
         number: u32,
-        trigrams: &Trigrams,
+        old: &Trigrams,
+        new: &Trigrams,
         from: u32,
         most: usize,
+        share: usize,
     ) -> Result<(Option<u32>, usize), AllocError>
-        ensures ok { IfOk result (λ done. (t : ℕ) → has trigrams.now t ≡ true → from ≤ t → is_before done.0 t ≡ true → holds self.new t number ≡ true) }
-        ensures kept { (t n : ℕ) → holds self.old t n ≡ true → holds self.new t n ≡ true }
-        ensures grown { (t n : ℕ) → holds self.new t n ≡ true → (holds self.old t n || (has trigrams.now t && number == n)) ≡ true }
+        ensures ok { IfOk result (λ done. IsMovedUntil self.new number old.now new.now from done.0) }
+        ensures moved { MovesNumber self.old self.new number old.now new.now }
     {
-        let mut rest = trigrams.iter_from(from);
+        let moved = self.move_until(number, old, new, from, most, share);
+        self.give_back();
+        moved
+    }
+
+    fn move_until(
+        &mut self,
+        number: u32,
+        old: &Trigrams,
+        new: &Trigrams,
+        from: u32,
+        most: usize,
+        share: usize,
+    ) -> Result<(Option<u32>, usize), AllocError>
+        ensures ok { IfOk result (λ done. IsMovedUntil self.new number old.now new.now from done.0) }
+        ensures moved { MovesNumber self.old self.new number old.now new.now }
+    {
+        let mut olds = old.iter_from(from);
+        let mut news = new.iter_from(from);
         let mut left = most;
-        while let Some(trigram) = rest.next() {
+        while let Some(next) = lower_trigram(&mut olds, &mut news) {
             if left == 0 {
-                return Ok((Some(trigram.number()), 0));
+                return Ok((Some(next.1.number), 0));
             }
-            self.put(trigram, number)?;
-            left -= 1;
+            let work = self.work_by(next.0, share);
+            let is_change = self.move_one(number, next.0, next.1)?;
+            left = left.saturating_sub(if is_change { work } else { 1 });
         }
         Ok((None, left))
+    }
+
+    /// Takes the number out of the set of this trigram if only the old ones have it, and puts it in if only the new ones do. Returns
+    /// whether it is one of these.
+    fn move_one(&mut self, number: u32, trigram: Trigram, next: Taken) -> Result<bool, AllocError>
+        ensures ok { OnOk result (IsMovedIn self.new number trigram next.in_left next.in_right) }
+        ensures moved { MovesIn self.old self.new number trigram next.in_left next.in_right }
+    {
+        if !next.in_right {
+            self.remove(trigram, number);
+            return Ok(true);
+        }
+        if !next.in_left {
+            self.put(trigram, number)?;
+            return Ok(true);
+        }
+        Ok(false)
+    }
+
+    /// About how much work it is to take a number out of the sets of these trigrams, or to put it into them, in bytes of bodies: a
+    /// usual text has a trigram for each eight. `share` is the part of each set that is passed for that, in parts of `WHOLE`.
+    pub fn work(&self, trigrams: &Trigrams, share: usize) -> usize {
+        let mut work = 0_usize;
+        for trigram in trigrams.iter() {
+            work = work.saturating_add(self.work_by(trigram, share));
+        }
+        work
+    }
+
+    fn work_by(&self, trigram: Trigram, share: usize) -> usize {
+        let passed = self.size_by(trigram).saturating_mul(share) / WHOLE;
+        SET_WORK.saturating_add(passed / PASSED_FOR_A_BYTE)
     }
 
     fn put(&mut self, trigram: Trigram, number: u32) -> Result<(), AllocError>

@@ -1,12 +1,12 @@
 //! The trigrams of a text, in few bytes.
 
-ghost use Rattle.std.specs.Prelude.{◌≡◌, ◌<◌, not, filter, IfOk};
+ghost use Rattle.std.specs.Prelude.{◌≡◌, ◌<◌, ◌≤◌, [], length, not, filter, IfOk, IfSome, IfNone};
 ghost use Rattle.posting.specs.ListValue.{has};
-ghost use Rattle.posting.specs.Private.Gaps.{not_below};
+ghost use Rattle.posting.specs.Private.Gaps.{not_below, IsLower};
 ghost use Rattle.std.specs.List.Sorted.{IsStrictlyIncreasing};
 ghost use Rattle.std.specs.Iterator.{YieldsFirst, item_count};
 
-use crate::list::{List, Numbers};
+use crate::list::{List, Numbers, Taken, lower};
 use query::Trigram;
 use std::alloc::{AllocError, Global};
 use std::marker::Model;
@@ -57,6 +57,13 @@ impl Trigrams {
     {
         let (own, others) = self.numbers.differences(&other.numbers)?;
         Ok((Trigrams { numbers: own }, Trigrams { numbers: others }))
+    }
+
+    /// In how many bytes they are kept: one or two for each, mostly. It is at hand, so it serves to compare bodies.
+    pub fn size(&self) -> usize
+        ensures { length self.now ≤ result }
+    {
+        self.numbers.size()
     }
 
     /// The trigrams, rising.
@@ -118,6 +125,20 @@ impl<'a> Iterator for TrigramsIterator<'a> {
             Some(number) => Some(trigram_of_number(number)),
             None => None,
         }
+    }
+}
+
+/// Takes the lower of the two next trigrams out of both, and returns it, and which of the two had it.
+pub(crate) fn lower_trigram(
+    left: &mut TrigramsIterator<'_>,
+    right: &mut TrigramsIterator<'_>,
+) -> Option<(Trigram, Taken)>
+    ensures some { IfSome result (λ next. (next.0 ≡ next.1.number) × IsLower left.old right.old next.1 left.new right.new) }
+    ensures none { IfNone result ((left.old ≡ []) × (right.old ≡ [])) }
+{
+    match lower(&mut left.numbers, &mut right.numbers) {
+        Some(next) => Some((trigram_of_number(next.number), next)),
+        None => None,
     }
 }
 

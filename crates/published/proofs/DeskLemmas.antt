@@ -4,7 +4,7 @@ use Rattle.std.proofs.Common.{length-append, not, ◌&&◌, ◌||◌}
 use Rattle.std.specs.Prelude.{bytes_eq}
 use Rattle.std.proofs.lemmas.List.{length-take, take-append-le}
 use Rattle.std.proofs.Math.Seq.{take-length}
-use Rattle.index.specs.Text.{begins_with}
+use Rattle.prefixes.specs.Under.{begins_with}
 use Rattle.index.specs.declared.command.Command.{Command}
 use Rattle.index.specs.declared.command.Command.TheVariants.{Put, Remove, RemoveUnder}
 use Rattle.published.specs.History.{Known}

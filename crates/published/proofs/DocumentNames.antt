@@ -9,7 +9,7 @@ use Rattle.std.specs.Cmp.Lexicographic.{slice_cmp, texts_ties}
 use Rattle.std.specs.Ordering.{nat_cmp}
 use Rattle.std.specs.List.{list_any}
 use Rattle.std.specs.BTreeMap.{is_at}
-use Rattle.index.specs.Text.{begins_with}
+use Rattle.prefixes.specs.Under.{begins_with}
 use Rattle.index.specs.declared.command.Command.{Command}
 use Rattle.index.specs.declared.command.Command.TheVariants.{Put, Remove, RemoveUnder}
 use Rattle.index.specs.Documents.{Document, document, documents_after, documents_from, documents_of, number_of, is_taken, is_under, with_body}

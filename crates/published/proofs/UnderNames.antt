@@ -15,9 +15,10 @@ use Rattle.std.proofs.lemmas.List.{append-nil}
 use Rattle.std.proofs.lemmas.List.Folds.{list_any_more}
 use Rattle.std.proofs.lemmas.List.Sums.{take_while-cons}
 use Rattle.std.proofs.lemmas.Map.Keys.{sorted_head, sorted_tail}
-use Rattle.index.specs.Text.{begins_with}
+use Rattle.prefixes.specs.Under.{begins_with}
 use Rattle.index.proofs.DocumentLemmas.{same_name, bytes_eq-sym}
-use Rattle.index.proofs.UnderLemmas.{begins_le, none_behind}
+use Rattle.index.proofs.UnderLemmas.{none_behind}
+use Rattle.prefixes.proofs.UnderLemmas.{begins_le}
 
 -- whether a list has a member
 abbrev pub has_some : {X : Type 0} → List X → Bool
@@ -110,21 +111,6 @@ module _ (text : List ℕ) where
       sym (any_passes (begins_with text) set ∙ ap has_some (all_left set left sorted is ∙ ap (take_while (begins_with text)) end))
 
 -- ---- names that are taken out
-
--- one more of them
-pub one_more_out : (p : List ℕ → Bool) (names : List (List ℕ)) (i : ℕ) (name : List ℕ) (first before now : Bool) → i < length names
-    → name ≡ get_or names i name → before ≡ (not (list_any p (take i names)) && first) → now ≡ (not (p name) && before)
-    → now ≡ (not (list_any p (take (i + 1) names)) && first)
-one_more_out p names i name first before now inside is was says =
-    says
-    ∙ (ap (λ b. not (p name) && b) was
-    ∙ (either (list_any p (take i names)) (p name)
-    ∙ ap (λ t. not t && first) (sym (list_any_more p names i name inside ∙ ap (λ n. list_any p (take i names) || p n) (sym is)))))
-  where
-    either : (a b : Bool) → (not b && (not a && first)) ≡ (not (a || b) && first)
-    either true true = refl
-    either true false = refl
-    either false b = refl
 
 module _ (text q : List ℕ) where
   abbrev has : List (List ℕ) → Bool

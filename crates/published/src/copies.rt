@@ -70,9 +70,9 @@ impl Copies {
     }
 
     /// Carries out on the spare copy some of what it lacks: first commands that the other copy has, then commands that no
-    /// publish has shown, up to the first body that is not analysed, about `most` bytes of bodies. Returns whether more is left
-    /// that a further call can carry out. It waits only if there is anything to do, for readings that still look at the spare
-    /// copy.
+    /// publish has shown, up to the first body that is not analysed, about `most` bytes of bodies; the last one perhaps in part.
+    /// Returns whether more is left that a further call can carry out. It waits only if there is anything to do, for readings that
+    /// still look at the spare copy.
     pub(crate) fn catch_up<R: Wait>(&mut self, rt: &R, most: usize) -> bool
         ensures { self.new ≡ self.old }
     {

@@ -292,12 +292,14 @@ impl Desk {
 
     /// Brings the copy of the index that no reading sees further up to date, ahead of the next publish, which then has less to
     /// do. It carries out on it some of the commands that it lacks: first those that are published, then those that are only
-    /// accepted, up to the first put whose body is not analysed, until the bodies that they bring and take away have about `most`
-    /// bytes. If `most` is not 0 and such a command is lacking, it is at least one. Returns whether more is left; if memory ran
-    /// out for a command, `false`: that one and those after it are left to a later call or publish.
+    /// accepted, up to the first put whose body is not analysed, until that is about as much work as bodies of `most` bytes. A remove
+    /// of names under a prefix, a document that changes many sets, and all sets where they are filled anew can be done in part, which
+    /// a further call or the publish goes on with. If `most` is not 0 and anything is lacking, it is at least a command, or a part.
+    /// Returns whether more is left that a further call can do; if memory ran out, `false`: the rest is left to a later call or
+    /// publish.
     ///
-    /// If such a command is lacking, the first call after a publish waits for readings that are taking what a search needs, as a
-    /// publish does; the calls after it do not wait.
+    /// If anything is lacking, the first call after a publish waits for readings that are taking what a search needs, as a publish
+    /// does; the calls after it do not wait.
     pub fn catch_up<R: Wait>(&mut self, rt: &R, most: usize) -> bool
         ensures { self.new ≡ self.old }
     {

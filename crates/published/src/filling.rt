@@ -4,7 +4,7 @@ ghost use Rattle.std.specs.Prelude.{◌≡◌, ◌≤◌, length, fold, take};
 ghost use denote.Param.Send.{IsSync};
 ghost use Rattle.published.specs.Private.Shelf.{operated};
 
-use crate::shelf::{Operation, Shelf};
+use crate::shelf::{Operation, Shelf, Way};
 use std::thread::{Threads, join_mut};
 
 /// A part that is analysed in a thread of its own has at least so many bytes of bodies. To start a thread and to wait for it takes as
@@ -27,19 +27,23 @@ pub(crate) fn carry_out_all<R: Threads + Sync>(
     ensures within { result ≤ length operations.old }
     ensures done { copy.new ≡ fold operated copy.old (take result operations.old) }
 {
-    let later = bytes_of(operations) >= MANY;
+    let way = if bytes_of(operations) >= MANY {
+        Way::Together
+    } else {
+        Way::AtOnce
+    };
     analyse(rt, threads, operations);
-    carry_out(copy, operations, later)
+    carry_out(copy, operations, way)
 }
 
 /// Carries out these operations, one after the other. Returns how many were carried out: all of them, or those before the first one
 /// that was refused.
-fn carry_out(copy: &mut Shelf, operations: &[Operation], later: bool) -> usize
+fn carry_out(copy: &mut Shelf, operations: &[Operation], way: Way) -> usize
     ensures within { result ≤ length operations.now }
     ensures done { copy.new ≡ fold operated copy.old (take result operations.now) }
 {
     for at in 0..operations.len() {
-        if copy.carry_out(&operations[at], later).is_err() {
+        if copy.carry_out(&operations[at], way).is_err() {
             return at;
         }
     }

@@ -22,7 +22,7 @@ pub(crate) struct Log {
     pub(crate) pending: VecDeque<Operation>,
     /// How many of the pending operations, from the first one on, the spare copy has.
     pub(crate) ahead: usize,
-    /// Whether a document waits on the spare copy to be put further into the sets of its trigrams. No contract depends on it.
+    /// Whether documents wait on the spare copy, which `Shelf::fill_some` goes on with. No contract depends on it.
     is_filling: bool,
     ghost within: { ahead ≤ length pending.items },
 }
@@ -69,7 +69,7 @@ impl Log {
         Ok(())
     }
 
-    /// Whether a document waits, or the operation that the spare copy lacks first can be carried out: a body that it brings is
+    /// Whether documents wait, or the operation that the spare copy lacks first can be carried out: a body that it brings is
     /// analysed.
     pub(crate) fn is_ready(&self) -> bool {
         if self.is_filling {
@@ -89,15 +89,18 @@ impl Log {
     }
 
     /// Carries out on the spare copy what it lacks, the first operation first, until that comes to about `most` bytes of
-    /// bodies, but first goes on with a document that waits. Returns how much of `most` is left; if that is not 0, the copy has each
-    /// operation. An `Err` means that memory ran out, or that the body of an operation is not analysed; it stays in the log with
-    /// those after it.
+    /// bodies. A document that waits alone comes before the next operation, and all from a number on after the last. Returns how much
+    /// of `most` is left; if that is not 0, none waits, and the copy has each operation before the first whose body is not analysed.
+    /// An `Err` is as that of `Shelf::carry_out`; the operation stays in the log with those after it, and what waits goes on to wait.
     pub(crate) fn bring_up(&mut self, spare: &mut Shelf, most: usize) -> Result<usize, AllocError>
         ensures step { (shown : Shelf) → InStep shown spare.old self.old → InStep shown spare.new self.new }
         ensures pending { self.new.pending.items ≡ self.old.pending.items }
     {
+        spare.expect_fill(true);
         let left = self.carry_on(spare, most);
+        let left = fill_rest(spare, left);
         self.is_filling = spare.is_filling();
+        spare.expect_fill(self.is_ready());
         left
     }
 
@@ -123,7 +126,7 @@ impl Log {
         ensures step { (shown : Shelf) → InStep shown spare.old self.old → InStep shown spare.new self.new }
         ensures pending { self.new.pending.items ≡ self.old.pending.items }
     {
-        spare.expect_fill();
+        spare.expect_fill(true);
         match make_up(spare, &mut self.behind, usize::MAX) {
             Ok(0) => {}
             Ok(_) => self.ahead = fill_ahead(rt, threads, spare, &mut self.pending, self.ahead),
@@ -153,6 +156,17 @@ impl Log {
     }
 }
 
+/// Goes on with documents that wait, if so much of a piece is left after the operations that the spare copy lacked. Returns how much
+/// is left then.
+fn fill_rest(spare: &mut Shelf, left: Result<usize, AllocError>) -> Result<usize, AllocError>
+    ensures { spare.new ≡ spare.old }
+{
+    match left {
+        Ok(left) if left > 0 => spare.fill_some(left),
+        other => other,
+    }
+}
+
 /// Puts a document that waits further into the sets of its trigrams, and then carries out what the spare copy lacks of the one that
 /// is shown, of which a large new document waits in turn. Returns how much of `most` is left.
 fn make_up(
@@ -163,12 +177,12 @@ fn make_up(
     ensures same { fold operated spare.new behind.new.items ≡ fold operated spare.old behind.old.items }
     ensures all { IfOk result (λ left. 0 < left → behind.new.items ≡ []) }
 {
-    let mut left = spare.fill_some(most)?;
+    let mut left = spare.fill_one(most)?;
     while left > 0 {
         let Some(work) = make_up_next(spare, behind)? else {
             return Ok(left);
         };
-        left = spare.fill_some(left.saturating_sub(work))?;
+        left = spare.fill_one(left.saturating_sub(work))?;
     }
     Ok(0)
 }
@@ -189,8 +203,7 @@ fn make_up_next(
     if let Some(work) = spare.carry_out_part(first) {
         return Ok(Some(work));
     }
-    let work = spare.work(first);
-    spare.carry_out(first, first.is_large())?;
+    let work = spare.begin(first)?;
     let _ = behind.pop_front();
     Ok(Some(work))
 }
@@ -212,13 +225,13 @@ fn run_ahead(
         let Some(work) = run_ahead_next(spare, pending, ahead)? else {
             return Ok(left);
         };
-        left = spare.fill_some(left.saturating_sub(work))?;
+        left = spare.fill_one(left.saturating_sub(work))?;
     }
     Ok(0)
 }
 
 /// Carries out the first operation that neither copy has, or a part of it, after which it is still lacking. Returns how much work
-/// that was, or `None` if the spare copy has all of these operations.
+/// that was, or `None` if the spare copy has all of these operations up to the first one that cannot be carried out yet.
 fn run_ahead_next(
     spare: &mut Shelf,
     pending: &VecDeque<Operation>,
@@ -232,11 +245,13 @@ fn run_ahead_next(
     let Some(next) = pending.get(*ahead) else {
         return Ok(None);
     };
+    if !next.is_ready() {
+        return Ok(None);
+    }
     if let Some(work) = spare.carry_out_part(next) {
         return Ok(Some(work));
     }
-    let work = spare.work(next);
-    spare.carry_out(next, next.is_large())?;
+    let work = spare.begin(next)?;
     *ahead += 1;
     Ok(Some(work))
 }

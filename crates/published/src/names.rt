@@ -1,7 +1,7 @@
 //! The names of the documents after all accepted commands.
 
 ghost use Rattle.std.specs.Prelude.{◌≡◌, ℕ, List, Bool, false, not, ◌&&◌, ◌||◌, IfOk, OnErr, bytes_eq};
-ghost use Rattle.index.specs.Text.{begins_with};
+ghost use Rattle.prefixes.specs.Under.{begins_with};
 ghost use Rattle.std.specs.List.{list_any};
 ghost use Rattle.published.specs.Private.Names.{has_name, has_name_under, names_under};
 

@@ -2,12 +2,13 @@
 //! each operation is carried out on both.
 
 ghost use Rattle.std.specs.Prelude.{◌≡◌, ◌+◌, ◌^◌, ◌<◌, ◌≤◌, OnOk, OnErr, IfOk, IfSome, IfNone, MatchBool};
+ghost use Rattle.index.specs.declared.command.Command.TheVariants.{Put as put_command};
 ghost use Rattle.index.specs.State.{applied};
 ghost use Rattle.published.specs.Private.Shelf.{command_of};
 
 use crate::batches::Front;
 use crate::incoming::Incoming;
-use index::{Index, Name};
+use index::{Held, Index, Name};
 use left_right::Absorb;
 use std::alloc::AllocError;
 use std::thread::Threads;
@@ -15,11 +16,16 @@ use std::thread::Threads;
 /// How much work an operation without a body is, in bytes of bodies.
 const LEAST_WORK: usize = 256;
 
-/// A new document with so many bytes is put into the sets of its trigrams piece by piece.
-const LARGE: usize = 8_192;
-
-/// How much work it is to put a document into the set of a trigram, in bytes of bodies: a usual text has one for each eight bytes.
-const TRIGRAM_WORK: usize = 8;
+/// When the sets of its trigrams change for a document that is put or removed.
+#[derive(Clone, Copy)]
+pub(crate) enum Way {
+    /// At once.
+    AtOnce,
+    /// At once, but those for new documents wait for `Shelf::fill`.
+    Together,
+    /// At once if they are few; otherwise they wait for `Shelf::fill_some` or `Shelf::fill`.
+    InPieces,
+}
 
 /// A command whose name and body are shared by both copies.
 #[derive(Drop)]
@@ -84,14 +90,6 @@ impl Operation {
         }
     }
 
-    /// Whether it brings a large body.
-    pub(crate) fn is_large(&self) -> bool {
-        match self {
-            Operation::Change(Update::Put(_, incoming)) => incoming.len() >= LARGE,
-            _ => false,
-        }
-    }
-
     /// Whether it can be carried out: a body that it brings is analysed.
     pub(crate) fn is_ready(&self) -> bool {
         match self {
@@ -104,22 +102,37 @@ impl Operation {
 impl Shelf {
     ghost use Rattle.published.specs.Private.Shelf.{operated};
 
-    /// Carries out the operation; if `later`, a new document waits for `fill` or `fill_some`. After an `Err`, which means that memory ran out or that a body is not analysed, nothing has
-    /// changed.
-    pub(crate) fn carry_out(&mut self, operation: &Operation, later: bool) -> Result<(), AllocError>
+    /// Carries out the operation in this way. An `Err` means that memory ran out, that a name or a body has too many handles, or that
+    /// a body is not analysed; the documents and the front are then as they were.
+    pub(crate) fn carry_out(&mut self, operation: &Operation, way: Way) -> Result<(), AllocError>
         ensures ok { OnOk result (self.new ≡ operated self.old operation.now) }
         ensures err { OnErr result (self.new ≡ self.old) }
     {
         match operation {
-            Operation::Change(update) => change(&mut self.index, update, later)?,
+            Operation::Change(update) => change(&mut self.index, update, way)?,
             Operation::Stamp(front) => self.front = front.again(),
         }
         Ok(())
     }
 
+    /// Carries out the operation in pieces. Returns about how much work that was, but for what is left to `fill_some`. An `Err` is
+    /// as that of `carry_out`.
+    pub(crate) fn begin(&mut self, operation: &Operation) -> Result<usize, AllocError>
+        ensures ok { OnOk result (self.new ≡ operated self.old operation.now) }
+        ensures err { OnErr result (self.new ≡ self.old) }
+        ensures work { IfOk result (λ work. 0 < work) }
+    {
+        let bytes = self.bytes_in(operation);
+        self.carry_out(operation, Way::InPieces)?;
+        if self.is_filling() {
+            return Ok(LEAST_WORK);
+        }
+        Ok(bytes.saturating_add(LEAST_WORK))
+    }
+
     /// Carries out a part of the operation, if it is a remove of all names under a prefix and there is such a name: takes out
-    /// one document. Returns about how much work that was. The operation still has to be carried out, and then does what it would
-    /// have done before.
+    /// one document. Returns about how much work that was, but for what is left to `fill_some`. The operation still has to be
+    /// carried out, and then does what it would have done before.
     pub(crate) fn carry_out_part(&mut self, operation: &Operation) -> Option<usize>
         ensures part { operated self.new operation.now ≡ operated self.old operation.now }
         ensures work { IfSome result (λ work. 0 < work) }
@@ -132,15 +145,19 @@ impl Shelf {
         if !self.index.take_one_under(prefix) {
             return None;
         }
+        if self.is_filling() {
+            return Some(LEAST_WORK);
+        }
         let bytes = before.saturating_sub(self.index.held_bytes());
         Some(LEAST_WORK.saturating_add(bytes as usize))
     }
 
-    /// Says that `fill` follows. Until then removes may have all documents wait for it, where that takes less time.
-    pub(crate) fn expect_fill(&mut self)
+    /// Says whether `fill` or `fill_some` follows. If so, removes and replacements may have all documents wait for it, where that takes
+    /// less time.
+    pub(crate) fn expect_fill(&mut self, expected: bool)
         ensures { self.new ≡ self.old }
     {
-        self.index.expect_fill();
+        self.index.expect_fill(expected);
     }
 
     /// Puts the documents that wait into the sets of their trigrams, in up to `threads` threads. An `Err` means that memory ran
@@ -155,56 +172,55 @@ impl Shelf {
         self.index.fill(rt, threads)
     }
 
-    /// Puts a document that waits further into the sets of its trigrams: into as many as come to about `most` bytes of bodies, and one
-    /// at least. Returns how much of `most` is left, which is 0 if it still waits. An `Err` means that memory ran out.
-    pub(crate) fn fill_some(&mut self, most: usize) -> Result<usize, AllocError>
+    /// Goes on with a document that waits alone, until the work comes to about `most` bytes of bodies: a set that changes counts 8
+    /// bytes, for which a usual text has one trigram, and more in the middle of many. Returns how much of `most` is left, which is 0
+    /// if it still waits. An `Err` means that memory ran out.
+    pub(crate) fn fill_one(&mut self, most: usize) -> Result<usize, AllocError>
         ensures same { self.new ≡ self.old }
         ensures left { IfOk result (λ left. left ≤ most) }
     {
-        let sets = (most / TRIGRAM_WORK).max(1);
-        let left = self.index.fill_some(sets)?;
-        if self.index.is_filling() {
-            return Ok(0);
-        }
-        let work = sets.saturating_sub(left).saturating_mul(TRIGRAM_WORK);
-        Ok(most.saturating_sub(work))
+        let left = self.index.fill_one(most.max(1))?;
+        Ok(left.min(most))
     }
 
-    /// Whether a document waits that `fill_some` goes on with.
+    /// Goes on with all that waits, in the same way. Returns how much of `most` is left, which is 0 if some still waits.
+    pub(crate) fn fill_some(&mut self, most: usize) -> Result<usize, AllocError>
+        ensures { self.new ≡ self.old }
+    {
+        self.index.fill_some(most)
+    }
+
+    /// Whether documents wait that `fill_some` and `fill` go on with.
     pub(crate) fn is_filling(&self) -> bool {
         self.index.is_filling()
     }
 
-    /// About how much work it is to carry the operation out: the bytes of the body that it brings and of the one that it takes
-    /// away, and `LEAST_WORK` more. The body of a large new document is left to `fill_some`, and the documents under a prefix to
-    /// `carry_out_part`.
-    pub(crate) fn work(&self, operation: &Operation) -> usize
-        ensures { 0 < result }
-    {
-        let bytes = match operation {
-            Operation::Change(Update::Put(name, incoming)) => match self.bytes_of(name) {
-                None if operation.is_large() => 0,
-                None => incoming.len(),
-                Some(taken) => incoming.len().saturating_add(taken),
-            },
-            Operation::Change(Update::Remove(name)) => self.bytes_of(name).unwrap_or(0),
-            Operation::Change(Update::RemoveUnder(_)) => 0,
-            Operation::Stamp(_) => 0,
-        };
-        bytes.saturating_add(LEAST_WORK)
+    /// The bytes of the body that the operation brings, and of the one that it takes away.
+    fn bytes_in(&self, operation: &Operation) -> usize {
+        match operation {
+            Operation::Change(Update::Put(name, incoming)) => {
+                incoming.len().saturating_add(self.bytes_of(name))
+            }
+            Operation::Change(Update::Remove(name)) => self.bytes_of(name),
+            _ => 0,
+        }
     }
 
     /// The bytes of the body of the document with this name, if there is one.
-    fn bytes_of(&self, name: &Name) -> Option<usize> {
-        let number = self.index.number(name)?;
-        let (_, body) = self.index.document(number)?;
-        Some(body.as_bytes().len())
+    fn bytes_of(&self, name: &Name) -> usize {
+        let Some(number) = self.index.number(name) else {
+            return 0;
+        };
+        match self.index.document(number) {
+            Some((_, body)) => body.as_bytes().len(),
+            None => 0,
+        }
     }
 }
 
 /// Carries out the command. It is refused if memory ran out, for its analysis too, or if the index takes no more commands,
 /// which no desk meets.
-fn change(index: &mut Index, update: &Update, later: bool) -> Result<(), AllocError>
+fn change(index: &mut Index, update: &Update, way: Way) -> Result<(), AllocError>
     ensures ok { OnOk result (index.new ≡ applied (command_of update.now) index.old) }
     ensures err { OnErr result (index.new ≡ index.old) }
 {
@@ -213,12 +229,26 @@ fn change(index: &mut Index, update: &Update, later: bool) -> Result<(), AllocEr
     }
     match update {
         Update::Put(name, incoming) => match incoming.held() {
-            Some(held) if later => index.put_later(name, held),
-            Some(held) => index.apply_put(name, held),
+            Some(held) => put(index, name, held, way),
             None => Err(AllocError),
         },
-        Update::Remove(name) => index.remove(name),
+        Update::Remove(name) => match way {
+            Way::InPieces => index.remove_in_pieces(name),
+            _ => index.remove(name),
+        },
         Update::RemoveUnder(prefix) => index.remove_under(prefix),
+    }
+}
+
+fn put(index: &mut Index, name: &Name, held: &Held, way: Way) -> Result<(), AllocError>
+    requires { index.old.version + 1 < 2 ^ 32 }
+    ensures ok { OnOk result (index.new ≡ applied (put_command name.now held.now) index.old) }
+    ensures err { OnErr result (index.new ≡ index.old) }
+{
+    match way {
+        Way::AtOnce => index.apply_put(name, held),
+        Way::Together => index.put_later(name, held),
+        Way::InPieces => index.put_in_pieces(name, held),
     }
 }
 

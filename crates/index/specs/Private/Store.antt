@@ -12,7 +12,7 @@ use Rattle.index.specs.declared.store.Store.{Store}
 use Rattle.index.specs.Documents.{Document, document_at, number_of}
 use Rattle.index.specs.State.{state, body_bytes, IsState}
 use Rattle.index.specs.Private.Slots.{documents_in, RiseTo, FewAreEmpty}
-use Rattle.index.specs.Private.Sets.{AreSetsOf, trigrams_at}
+use Rattle.index.specs.Private.Sets.{AreSetsOf, NoneIsLeft, trigrams_at}
 
 -- the documents that the store keeps
 abbrev pub stored : Store → List Document
@@ -31,6 +31,7 @@ pub record HasPlaceFor (store : Store) (number : ℕ) (body : List ℕ) : Type 0
   pub slots : vec_len store.slots < vec_capacity store.slots
   pub live : HasRoom store.sets.live
   pub postings : (trigram : ℕ) → IsTrue (trigrams_of_body body trigram) → number < (set_of store.sets.postings trigram).limit
+  pub none_left : NoneIsLeft store.sets.waiting
 
 -- There is room for the document with this number to have this body. The change is from the trigrams that it has to those of
 -- the body.
@@ -40,6 +41,7 @@ pub record IsReadyFor (store : Store) (number : ℕ) (body : List ℕ) (change :
   pub gone : (t : ℕ) → has change.gone t ≡ (trigrams_at (stored store) number t && not (trigrams_of_body body t))
   pub once : AllDiffer change.fresh
   pub room : IsPrepared store.sets.postings number change.fresh
+  pub none_left : NoneIsLeft store.sets.waiting
 
 -- The store and the numbers are those of one state.
 pub record IsIndex (version : ℕ) (numbers : BTreeMap (List ℕ) ℕ) (store : Store) : Type 0 where

@@ -1,5 +1,5 @@
 use Rattle.std.proofs.Common.{◌≡◌, false, sym, ◌∙◌, ap}
-use Rattle.index.specs.Text.{begins_with}
+use Rattle.prefixes.specs.Under.{begins_with}
 use Rattle.index.proofs.RemovedLemmas.{none_from, none_but_first}
 use Rattle.index.proofs.index.first_number_under.Goals as goal
 

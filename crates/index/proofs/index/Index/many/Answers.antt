@@ -1,91 +1,51 @@
-use Rattle.std.proofs.Common.{◌≡◌, true, false, ◌&&◌, ◌++◌, sym, ◌∙◌, ap, subst, arith}
-use Rattle.std.specs.Prelude.{filter}
-use Rattle.std.proofs.lemmas.List.{length-map}
-use Rattle.posting.specs.ListValue.{has}
-use Rattle.index.specs.Text.{begins_with}
-use Rattle.index.specs.Documents.{number_of, is_under}
-use Rattle.index.specs.State.{IsState}
+use Rattle.std.proofs.Common.{◌≡◌, ◌+◌, ◌-◌, length, sym, ◌∙◌, ap, subst, arith}
+use Rattle.std.proofs.lemmas.List.{length-map, map-append}
+use Rattle.index.specs.Documents.{number_of}
 use Rattle.index.specs.Shared.{document_of, documents_shared}
-use Rattle.index.specs.Private.Chosen.{IsFirstUnder, documents_numbered}
+use Rattle.index.specs.State.{IsState}
 use Rattle.index.proofs.StoredLemmas.{Numbered-rise}
-use Rattle.index.proofs.UnderLemmas.{Behind-first, picked}
-use Rattle.index.proofs.OrderLemmas.{Named-pairs, many_taken}
-use Rattle.index.proofs.ChosenLemmas.{taken-none, taken-keep, taken-skip, taken-stop, taken-end, all-first, most-first}
+use Rattle.index.proofs.OrderLemmas.{Named-pairs, some_by_name}
+use Rattle.index.proofs.PrefixLemmas.{AreUnderFirst, apart_texts, part_of, place_of, under-all, under-full, under-more, under-none}
 use Rattle.index.proofs.index.Index.many.Goals as goal
+use Rattle.index.proofs.index.Index.many.Goals.{then-len-most+in_ok-part+in_ok-shared, else-len-most}
 
-pub loop-name-init : goal.loop-name-init
-loop-name-init c =
-    let text = c.args.prefix.now in
-    let all = c.into_iter-name-iterator.result in
-    let is = subst (IsFirstUnder text) (sym c.as_ref.ensures) c.requires in
-    taken-none c.args.self.now.documents (has c.args.chosen.now.members) text all (documents_shared c.in_ok-shared.shared.items)
-    (ap documents_shared c.in_ok-shared.ensures.items)
-    (Behind-first text _ is c.self.inside.numbers.entries all c.range-name-items.ensures.ordered
-    (c.into_iter-name-iterator.ensures.into_iter_gives ∙ c.range-name-items.ensures.between tt))
+pub loop-prefix-init : goal.loop-prefix-init
+loop-prefix-init c =
+    under-none c.args.most c.args.self.now.documents c.args.chosen.now.members c.texts-prefix-items.result.now (documents_shared c.new-shared.result.items)
+    (ap documents_shared c.new-shared.ensures.items)
 
-pub loop-name-preserved : goal.loop-name-preserved
-loop-name-preserved c =
-    let number = c.in-Some.number.now in
-    let members = c.args.chosen.now.members in
-    let other : has members number ≡ false = ap (λ ns. has ns number) (sym c.in_ok-among.ensures) ∙ sym c.if-has.ensures in
-    taken-skip c.args.self.now.documents (has members) c.args.prefix.now c.into_iter-name-iterator.result (documents_shared c.loop-name.shared.items)
-    c.loop-name.name-iterator c.next.new.self c.in-Some.name.now number c.in-Some.ensures.steps other c.loop-name.invariant
-
-pub loop-name-preserved-in-Continue-branch-3 : goal.loop-name-preserved-in-Continue-branch-3
-loop-name-preserved-in-Continue-branch-3 c =
-    let number = c.in-Some.number.now in
-    let members = c.args.chosen.now.members in
-    let text = c.args.prefix.now in
-    let here : has members number ≡ true = ap (λ ns. has ns number) (sym c.in_ok-among.ensures) ∙ sym c.if-has.ensures in
-    let begins : begins_with text c.in-Some.name.now ≡ true = ap (begins_with text) (sym c.as_bytes.ensures.bytes) ∙ sym c.if-not-starts_with.ensures.value in
-    taken-keep c.args.self.now.documents (has members) text c.into_iter-name-iterator.result (documents_shared c.loop-name.shared.items)
-    (documents_shared c.add.new.shared.items) c.loop-name.name-iterator c.next.new.self c.in-Some.name.now number c.in-Some.ensures.steps here begins
-    c.in_ok-add.ensures c.loop-name.invariant
-
-pub returns-then-not-starts_with : goal.returns-then-not-starts_with
-returns-then-not-starts_with c =
+pub loop-prefix-preserved : goal.loop-prefix-preserved
+loop-prefix-preserved c =
     let ds = c.args.self.now.documents in
-    let test = has c.args.chosen.now.members in
-    let text = c.args.prefix.now in
-    let all = c.into_iter-name-iterator.result in
-    let taken = documents_shared c.loop-name.shared.items in
+    let members = c.args.chosen.now.members in
+    let items = c.texts-prefix-items.result.now in
+    let at = c.loop-prefix.prefix-index in
+    let old = c.loop-prefix.shared.items in
+    let text = c.prefix-item.result.items in
+    let apart = apart_texts items c.args.prefixes.now c.texts-prefix-items.ensures.texts c.texts-prefix-items.ensures.apart in
+    let place = place_of items at c.prefix-item.result c.loop-prefix-test.true c.prefix-item.is in
     let is = subst IsState c.self.view_is c.self.invariant.is_state in
-    let first = subst (IsFirstUnder text) (sym c.as_ref.ensures) c.requires in
-    let other : begins_with text c.in-Some.name.now ≡ false = ap (begins_with text) (sym c.as_bytes.ensures.bytes) ∙ sym c.if-not-starts_with.ensures.value in
-    all-first c.args.most (filter (λ d. test d.number && is_under text d) ds) taken
-    (many_taken ds (Numbered-rise ds is.rise) (Named-pairs ds is.names) test text c.self.inside.numbers
-    (λ name. c.self.invariant.number name ∙ ap (λ s. number_of name s.documents) c.self.view_is) c.range-name-items.ensures.ordered _ first all
-    (c.into_iter-name-iterator.ensures.into_iter_gives ∙ c.range-name-items.ensures.between tt) taken
-    (taken-stop ds test text all taken c.loop-name.name-iterator c.next.new.self c.in-Some.name.now c.in-Some.number.now c.in-Some.ensures.steps other
-    c.loop-name.invariant))
-
-pub returns-then-len-most : goal.returns-then-len-most
-returns-then-len-most c =
-    let ds = c.args.self.now.documents in
-    let test = has c.args.chosen.now.members in
-    let text = c.args.prefix.now in
-    let all = c.into_iter-name-iterator.result in
-    let taken = documents_shared c.loop-name.shared.items in
-    let is = subst IsState c.self.view_is c.self.invariant.is_state in
-    let first = subst (IsFirstUnder text) (sym c.as_ref.ensures) c.requires in
-    let others = filter (is_under text) (documents_numbered ds (picked test text c.loop-name.name-iterator)) in
-    most-first c.args.most (filter (λ d. test d.number && is_under text d) ds) taken others
-    (many_taken ds (Numbered-rise ds is.rise) (Named-pairs ds is.names) test text c.self.inside.numbers
-    (λ name. c.self.invariant.number name ∙ ap (λ s. number_of name s.documents) c.self.view_is) c.range-name-items.ensures.ordered _ first all
-    (c.into_iter-name-iterator.ensures.into_iter_gives ∙ c.range-name-items.ensures.between tt) (taken ++ others) c.loop-name.invariant.so_far)
-    (omega (arith, c.if-len-most.true, c.len-in-loop-name.ensures, c.loop-name.shared.ok, length-map c.loop-name.shared.items document_of))
+    let count : length (documents_shared old) ≡ c.len.result =
+    length-map old document_of ∙ sym (c.len.ensures ∙ c.loop-prefix.shared.ok.0) in
+    elim c.if-len-most.branch [
+      | then-len-most+in_ok-part+in_ok-shared w ↦
+          subst (λ v. AreUnderFirst c.args.most ds members items (at + 1) (documents_shared v.items)) (sym w.shared-is)
+          (under-more c.args.most ds members items at text apart place.0 place.1 (documents_shared old) (documents_shared w.in_ok-part.part.items)
+          (documents_shared w.in_ok-shared.shared.items) (let room = w.if-len-most.true in omega arith) c.loop-prefix.invariant
+          (part_of (c.args.most - length (documents_shared old)) (c.args.most - w.len-then-len-most.result) ds (documents_shared w.in_ok-part.part.items)
+          c.in_ok-among.among members w.as_slice.result.now text
+          (ap (λ n. c.args.most - n) (w.len-then-len-most.ensures ∙ c.loop-prefix.shared.ok.0 ∙ sym (length-map old document_of))) c.in_ok-among.ensures
+          w.as_slice.ensures.value w.in_ok-part.ensures)
+          (ap documents_shared w.in_ok-shared.ensures ∙ map-append document_of old w.in_ok-part.part.items))
+      | else-len-most w ↦
+          subst (λ v. AreUnderFirst c.args.most ds members items (at + 1) (documents_shared v.items)) (sym w.shared-is)
+          (under-full c.args.most ds members items at text apart place.0 place.1 (documents_shared old) (let full = w.if-len-most.false in omega arith)
+          (some_by_name ds (Numbered-rise ds is.rise) (Named-pairs ds is.names) c.self.inside.numbers
+          (λ name. c.self.invariant.number name ∙ ap (λ s. number_of name s.documents) c.self.view_is) c.iter-in_order.ensures.ordered)
+          c.loop-prefix.invariant)
+    ]
 
 pub returns : goal.returns
 returns c =
-    let ds = c.args.self.now.documents in
-    let test = has c.args.chosen.now.members in
-    let text = c.args.prefix.now in
-    let all = c.into_iter-name-iterator.result in
-    let taken = documents_shared c.loop-name.shared.items in
-    let is = subst IsState c.self.view_is c.self.invariant.is_state in
-    let first = subst (IsFirstUnder text) (sym c.as_ref.ensures) c.requires in
-    all-first c.args.most (filter (λ d. test d.number && is_under text d) ds) taken
-    (many_taken ds (Numbered-rise ds is.rise) (Named-pairs ds is.names) test text c.self.inside.numbers
-    (λ name. c.self.invariant.number name ∙ ap (λ s. number_of name s.documents) c.self.view_is) c.range-name-items.ensures.ordered _ first all
-    (c.into_iter-name-iterator.ensures.into_iter_gives ∙ c.range-name-items.ensures.between tt) taken
-    (taken-end ds test text all taken c.loop-name.name-iterator c.in-None.ensures.steps.0 c.loop-name.invariant))
+    under-all c.args.most c.args.self.now.documents c.args.chosen.now.members c.texts-prefix-items.result.now c.loop-prefix.prefix-index
+    c.args.prefixes.now (documents_shared c.loop-prefix.shared.items) c.loop-prefix-test.false c.texts-prefix-items.ensures.texts c.loop-prefix.invariant

@@ -1,8 +1,6 @@
-use Rattle.posting.specs.ListValue.{has}
 use Rattle.index.specs.Shared.{documents_shared}
-use Rattle.index.proofs.ChosenLemmas.{AreTaken}
+use Rattle.index.proofs.PrefixLemmas.{AreUnderFirst}
 use Rattle.index.proofs.index.Index.many.Given as goal
 
-abbrev pub invariant-loop-name : goal.invariant-loop-name
-invariant-loop-name l =
-    AreTaken l.self.documents (has l.chosen.members) l.prefix (documents_shared l.shared.items) l.name-iterator l.initial.name-iterator
+abbrev pub invariant-loop-prefix : goal.invariant-loop-prefix
+invariant-loop-prefix l = AreUnderFirst l.most l.self.documents l.chosen.members l.prefix-items l.prefix-index (documents_shared l.shared.items)

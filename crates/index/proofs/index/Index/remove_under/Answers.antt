@@ -6,7 +6,7 @@ use Rattle.index.proofs.index.Index.remove_under.Goals as goal
 
 pub loop-preserved : goal.loop-preserved
 loop-preserved c =
-    let taken = c.take_one_under.ensures.taken c.loop-test.true in
+    let taken = c.take_under.ensures.taken c.loop-test.true in
     let text = c.args.prefix.now in
     record {
       version = ap (λ s. s.version) taken.left ∙ c.loop.invariant.version;
@@ -18,7 +18,7 @@ loop-preserved c =
 pub returns-clause-ok : goal.returns-clause-ok
 returns-clause-ok c =
     let text = c.args.prefix.now in
-    let none = c.take_one_under.ensures.none c.loop-test.false in
+    let none = c.take_under.ensures.none c.loop-test.false in
     let later : State → State = λ s. state (s.version + 1) s.documents in
     ap later (c.self.view_is ∙ none.0)
     ∙ (ap (λ v. state (v + 1) c.loop.self.documents) c.loop.invariant.version

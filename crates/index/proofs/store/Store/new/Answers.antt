@@ -3,7 +3,7 @@ use Rattle.std.proofs.lemmas.Bool.{false≢true}
 use Rattle.index.specs.Documents.{document_at}
 use Rattle.index.specs.State.{body_bytes}
 use Rattle.index.specs.Private.Slots.{documents_in, RiseTo, FewAreEmpty}
-use Rattle.index.specs.Private.Sets.{AreSetsOf}
+use Rattle.index.specs.Private.Sets.{AreSetsOf, is_left}
 use Rattle.index.proofs.StoredLemmas.{RiseTo-none}
 use Rattle.index.proofs.store.Store.new.Goals as goal
 
@@ -22,6 +22,7 @@ returns-clause-store c = record {
         live = c.new-2.ensures.live;
         postings = λ t n whole. c.new-2.ensures.postings t n;
         few = λ t n held. absurd (false≢true (sym (c.new-2.ensures.postings t n) ∙ held));
+        both = λ t n left there. absurd (false≢true (sym (ap (λ w. is_left w t n) c.new-2.ensures.waiting) ∙ left));
       });
   counted = ap (λ xs. length (documents_in xs)) (sym c.new.ensures.items);
   bytes = ap (λ xs. body_bytes (documents_in xs)) (sym c.new.ensures.items);

@@ -14,7 +14,7 @@ put_in-requires-clause-above c =
     let old = c.args.self.now in
     let last = c.requires.store.0 in
     let kept = c.requires.store.1 in
-    IsNew-above (stored old) last c.args.number c.args.occupant.held c.trigrams.result.now old.sets kept.sets
+    IsNew-above (stored old) last c.args.number c.args.occupant.held c.trigrams.result.now old.sets kept.sets c.requires.room.none_left
     (numbers_at_most last old.slots.items kept.slots) c.requires.store.2 c.trigrams.ensures.trigrams
 
 pub overflow_add-self-2 : goal.overflow_add-self-2

@@ -54,7 +54,7 @@ returns-clause-store c =
       sets =
           subst (λ ds. AreSetsOf ds c.put_later.new.self) (sym documents)
           (AreSetsOf-later (stored old) c.args.number c.args.occupant.name c.args.occupant.held old.sets c.put_later.new.self kept.sets
-          c.put_later.ensures.live c.put_later.ensures.postings c.put_later.ensures.waiting);
+          c.requires.room.none_left c.put_later.ensures.none_left c.put_later.ensures.live c.put_later.ensures.postings c.put_later.ensures.waiting);
       counted = omega (arith, more_documents, kept.counted);
       bytes = omega (arith, size, bytes, kept.bytes);
     }

@@ -1,6 +1,5 @@
-use Rattle.std.proofs.Common.{◌≡◌, ℕ, List, Option, Some, None, sym, ◌∙◌, ap, subst, arith, length, map}
-use Rattle.std.specs.Prelude.{IsSome, option_map}
-use Rattle.std.proofs.lemmas.Bool.{false≢true}
+use Rattle.std.proofs.Common.{◌≡◌, sym, ◌∙◌, ap, subst, arith, length, map}
+use Rattle.std.specs.Prelude.{option_map}
 use Rattle.std.specs.Vec.{with_items}
 use Rattle.std.proofs.lemmas.List.{length-map, with_items_is}
 use Rattle.index.specs.Documents.{document_at}
@@ -8,23 +7,13 @@ use Rattle.index.specs.State.{body_bytes}
 use Rattle.index.specs.Private.Slots.{documents_in, RiseTo, FewAreEmpty, with_body_at}
 use Rattle.index.specs.Private.Sets.{AreSetsOf}
 use Rattle.index.specs.Private.Store.{stored}
-use Rattle.index.proofs.StoredLemmas.{Numbered-stored, AreSetsOf-replace, fresh_are_absent, body_bytes-replaced, RiseTo-same}
+use Rattle.index.proofs.StoredLemmas.{Numbered-stored, AreSetsOf-replace, fresh_are_absent, body_bytes-replaced, RiseTo-same, found_body, not_lost}
 use Rattle.index.proofs.store.Store.replace.Goals as goal
-
--- a body that was found is that of a document
-found_body : (found : Option (List ℕ × List ℕ)) (body : List ℕ) → Some body ≡ option_map (λ d. d.1) found
-    → (name : List ℕ) × (found ≡ Some (name, body))
-found_body None body e = cc
-found_body (Some d) body e = let same : body ≡ d.1 = cc in (d.0, ap (λ b. Some (d.0, b)) (sym same))
-
-not_lost : (found : Option (List ℕ × List ℕ)) → None ≡ option_map (λ d. d.1) found → IsSome found → ⊥
-not_lost None e there = false≢true there
-not_lost (Some d) e there = cc
 
 pub replace-requires-clause-absent : goal.replace-requires-clause-absent
 replace-requires-clause-absent c =
     let old = c.args.self.now in
-    fresh_are_absent (stored old) c.args.number c.args.held c.args.change.now.fresh old.sets c.requires.store.1.sets c.requires.room.fresh
+    fresh_are_absent (stored old) c.args.number c.args.held c.args.change.now.fresh old.sets c.requires.store.1.sets c.requires.room.none_left c.requires.room.fresh
 
 pub overflow_sub-self : goal.overflow_sub-self
 overflow_sub-self c =
@@ -34,7 +23,7 @@ overflow_sub-self c =
     (c.in-Some.ensures.held ∙ ap (λ slots. option_map (λ d. d.1) (document_at c.args.number (documents_in slots))) c.deref_mut.ensures.value) in
     let bytes = body_bytes-replaced c.args.number (stored old) at.0 c.in-Some.old c.args.held
     (Numbered-stored c.requires.store.0 old.slots.items kept.slots) at.1 in
-    let new_size : length c.as_bytes-2.result.now ≡ length c.args.held = ap length (c.as_bytes-2.ensures.bytes ∙ c.body-2.ensures) in
+    let new_size : length c.as_bytes.result.now ≡ length c.args.held = ap length (c.as_bytes.ensures.bytes ∙ c.body.ensures) in
     let old_size : length c.as_bytes-in-Some.result.now ≡ length c.in-Some.old =
     ap length (c.as_bytes-in-Some.ensures.bytes ∙ c.body-in-Some.ensures) in
     omega (arith, bytes, new_size, old_size, kept.bytes)
@@ -47,7 +36,7 @@ returns-in-Some-clause-store c = λ last kept.
     (c.in-Some.ensures.held ∙ ap (λ slots. option_map (λ d. d.1) (document_at c.args.number (documents_in slots))) c.deref_mut.ensures.value) in
     let bytes = body_bytes-replaced c.args.number (stored old) at.0 c.in-Some.old c.args.held
     (Numbered-stored last old.slots.items kept.slots) at.1 in
-    let new_size : length c.as_bytes-2.result.now ≡ length c.args.held = ap length (c.as_bytes-2.ensures.bytes ∙ c.body-2.ensures) in
+    let new_size : length c.as_bytes.result.now ≡ length c.args.held = ap length (c.as_bytes.ensures.bytes ∙ c.body.ensures) in
     let old_size : length c.as_bytes-in-Some.result.now ≡ length c.in-Some.old =
     ap length (c.as_bytes-in-Some.ensures.bytes ∙ c.body-in-Some.ensures) in
     let documents : documents_in items ≡ map (with_body_at c.args.number c.args.held) (stored old) =

@@ -1,6 +1,5 @@
-use Rattle.std.proofs.Common.{◌≡◌, ℕ, List, Option, Some, None, sym, ◌∙◌, ap, subst, arith, length, map}
-use Rattle.std.specs.Prelude.{IsSome, option_map}
-use Rattle.std.proofs.lemmas.Bool.{false≢true}
+use Rattle.std.proofs.Common.{◌≡◌, sym, ◌∙◌, ap, subst, arith, length, map}
+use Rattle.std.specs.Prelude.{option_map}
 use Rattle.std.specs.Vec.{with_items}
 use Rattle.std.proofs.lemmas.List.{length-map, with_items_is}
 use Rattle.index.specs.Documents.{document_at}
@@ -8,18 +7,8 @@ use Rattle.index.specs.State.{body_bytes}
 use Rattle.index.specs.Private.Slots.{documents_in, RiseTo, FewAreEmpty, with_body_at}
 use Rattle.index.specs.Private.Sets.{AreSetsOf}
 use Rattle.index.specs.Private.Store.{stored}
-use Rattle.index.proofs.StoredLemmas.{Numbered-stored, AreSetsOf-waits, body_bytes-replaced, RiseTo-same}
+use Rattle.index.proofs.StoredLemmas.{Numbered-stored, AreSetsOf-waits, body_bytes-replaced, RiseTo-same, found_body, not_lost}
 use Rattle.index.proofs.store.Store.replace_later.Goals as goal
-
--- a body that was found is that of a document
-found_body : (found : Option (List ℕ × List ℕ)) (body : List ℕ) → Some body ≡ option_map (λ d. d.1) found
-    → (name : List ℕ) × (found ≡ Some (name, body))
-found_body None body e = cc
-found_body (Some d) body e = let same : body ≡ d.1 = cc in (d.0, ap (λ b. Some (d.0, b)) (sym same))
-
-not_lost : (found : Option (List ℕ × List ℕ)) → None ≡ option_map (λ d. d.1) found → IsSome found → ⊥
-not_lost None e there = false≢true there
-not_lost (Some d) e there = cc
 
 pub overflow_sub-self : goal.overflow_sub-self
 overflow_sub-self c =
@@ -61,7 +50,7 @@ returns-in-Some-clause-store c = λ last kept.
       sets =
           subst (λ ds. AreSetsOf ds c.withdraw.new.self) (sym (ap documents_in moved ∙ documents))
           (AreSetsOf-waits (stored old) c.args.number at.0 c.in-Some.old c.args.held c.trigrams.result.now old.sets c.withdraw.new.self kept.sets at.1
-          c.trigrams.ensures.trigrams c.requires.waits c.withdraw.ensures.live c.withdraw.ensures.waiting c.withdraw.ensures.postings);
+          c.trigrams.ensures.trigrams c.requires.waits c.requires.none_left c.withdraw.ensures.live c.withdraw.ensures.waiting c.withdraw.ensures.postings);
       counted = omega (arith, ap (λ xs. length (documents_in xs)) moved, documents_same, kept.counted);
       bytes = omega (arith, bytes, left, new_size, old_size, kept.bytes);
     }

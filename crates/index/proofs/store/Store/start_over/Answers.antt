@@ -9,7 +9,7 @@ returns-clause-store c = λ last kept.
       few = kept.few;
       sets =
           AreSetsOf-over (stored c.args.self.now) c.args.self.now.sets c.start_over.new.self kept.sets c.start_over.ensures.live
-          c.start_over.ensures.postings c.start_over.ensures.waiting;
+          c.start_over.ensures.postings c.start_over.ensures.waiting c.start_over.ensures.none_left;
       counted = kept.counted;
       bytes = kept.bytes;
     }

@@ -5,7 +5,7 @@ use Rattle.index.specs.State.{body_bytes}
 use Rattle.index.specs.Private.Slots.{documents_in, texts_of, without_number, RiseTo, FewAreEmpty}
 use Rattle.index.specs.Private.Sets.{AreSetsOf}
 use Rattle.index.specs.Private.Store.{stored}
-use Rattle.index.proofs.StoredLemmas.{Numbered-stored, AreSetsOf-take, body_bytes-without, length-without, without-absent_number, RiseTo-same}
+use Rattle.index.proofs.StoredLemmas.{Numbered-stored, body_bytes-without, length-without, without-absent_number, RiseTo-same}
 use Rattle.index.proofs.store.Store.take_out_now.Goals as goal
 
 pub overflow_sub-self : goal.overflow_sub-self
@@ -36,9 +36,7 @@ returns-in-Some-clause-store c = λ last kept.
     let documents : documents_in c.give_back.new.slots.items ≡ without_number c.args.number (stored old) =
     ap documents_in c.give_back.ensures ∙ c.compact.ensures.documents ∙ c.take.ensures.documents in
     let left : body_bytes (documents_in c.give_back.new.slots.items) ≡ body_bytes (without_number c.args.number (stored old)) = ap body_bytes documents in
-    let sets =
-    AreSetsOf-take (stored old) c.args.number c.in-Some.occupant.name c.in-Some.occupant.held c.trigrams.result.now old.sets
-    c.take_out.new.self kept.sets at c.trigrams.ensures.trigrams c.take_out.ensures.live c.take_out.ensures.waiting c.take_out.ensures.postings in
+    let sets = c.take_out.ensures.sets (stored old) c.in-Some.occupant.name kept.sets at in
     let fewer = length-without c.args.number (stored old) c.in-Some.occupant.name c.in-Some.occupant.held
     (Numbered-stored last old.slots.items kept.slots) at in
     let taken : length (documents_in c.take.new.slots.items) ≡ length (without_number c.args.number (stored old)) =

@@ -2,7 +2,7 @@ use Rattle.std.proofs.Common.{rules, ◌≡◌, ◌∙◌, ◌&&◌, not, ℕ, L
 use Rattle.index.specs.declared.command.Command.TheVariants.{RemoveUnder}
 use Rattle.published.specs.declared.shelf.Update.TheVariants as update
 use Rattle.published.specs.Private.Shelf.{command_of}
-use Rattle.index.specs.Text.{begins_with}
+use Rattle.prefixes.specs.Under.{begins_with}
 use Rattle.published.specs.Desk.{HasRoom}
 use Rattle.published.specs.Private.Names.{has_name}
 use Rattle.published.proofs.UnderNames.{left_out}

@@ -1,6 +1,6 @@
 use Rattle.std.proofs.Common.{◌∷◌, [], ◌++◌, sym, ap, ◌∙◌}
 use Rattle.std.specs.List.{take_while}
-use Rattle.index.specs.Text.{begins_with}
+use Rattle.prefixes.specs.Under.{begins_with}
 use Rattle.published.specs.Private.Names.{names_under}
 use Rattle.published.proofs.UnderNames.{all_left, one_found, no_more, none_left}
 use Rattle.published.proofs.names.Names.under.Goals as goal

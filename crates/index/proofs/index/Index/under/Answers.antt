@@ -1,18 +1,18 @@
 use Rattle.std.proofs.Common.{sym, ap, subst}
 use Rattle.std.specs.Prelude.{filter}
-use Rattle.index.specs.Documents.{is_chosen, IsInNameOrder}
+use Rattle.index.specs.Documents.{is_picked, IsInNameOrder}
 use Rattle.index.specs.Shared.{documents_shared}
 use Rattle.index.specs.State.{IsState}
 use Rattle.index.proofs.ChosenLemmas.{all-first}
 use Rattle.index.proofs.OrderLemmas.{none_in_order}
-use Rattle.index.proofs.index.Index.chosen_documents_under.Goals as goal
+use Rattle.index.proofs.index.Index.under.Goals as goal
 
 pub returns-in-None : goal.returns-in-None
 returns-in-None c =
     let ds = c.args.self.now.documents in
-    let members = c.args.chosen.now.members in
+    let members = c.args.among.now in
     let prefix = c.args.prefix.now in
     let is = subst IsState c.self.view_is c.self.invariant.is_state in
-    all-first c.args.most (filter (is_chosen members prefix) ds) (documents_shared c.new.result.items)
-    (subst (IsInNameOrder (filter (is_chosen members prefix) ds)) (sym (ap documents_shared c.new.ensures.items))
+    all-first c.args.most (filter (is_picked members prefix) ds) (documents_shared c.new.result.items)
+    (subst (IsInNameOrder (filter (is_picked members prefix) ds)) (sym (ap documents_shared c.new.ensures.items))
     (none_in_order members prefix ds (λ k d inside. (is.good k d inside).2) (rw c.in-None.is at c.in_ok-first.ensures.none)))

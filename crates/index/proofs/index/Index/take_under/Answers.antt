@@ -12,7 +12,7 @@ use Rattle.index.proofs.ApplyLemmas.{document_at-named, without-numbered}
 use Rattle.index.proofs.StoredLemmas.{length-without}
 use Rattle.index.proofs.IndexLemmas.{numbered, named, IsIndex-without, changed_at}
 use Rattle.index.proofs.RemovedLemmas.{none_under, named_at, still_without}
-use Rattle.index.proofs.index.Index.take_one_under.Goals as goal
+use Rattle.index.proofs.index.Index.take_under.Goals as goal
 
 pub returns-in_default-clause-none : goal.returns-in_default-clause-none
 returns-in_default-clause-none c = λ no. (

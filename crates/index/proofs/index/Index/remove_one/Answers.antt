@@ -2,8 +2,8 @@ use Rattle.std.proofs.Common.{◌+◌, ◌<◌, ◌^◌, sym, ◌∙◌, ap, ari
 use Rattle.index.specs.declared.command.Command.TheVariants.{Remove}
 use Rattle.index.specs.State.{state, applied}
 use Rattle.index.proofs.IndexLemmas.{IsIndex-without, IsIndex-later, removed_is_without, absent_is_without, changed_at}
-use Rattle.index.proofs.index.Index.remove.Goals as goal
-use Rattle.index.proofs.index.Index.remove.Goals.{in-Some, in_default}
+use Rattle.index.proofs.index.Index.remove_one.Goals as goal
+use Rattle.index.proofs.index.Index.remove_one.Goals.{in-Some, in_default}
 
 pub invariant_of-self : goal.invariant_of-self
 invariant_of-self c =
