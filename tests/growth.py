@@ -438,6 +438,33 @@ def candidates_behind_names_under_a_prefix(n):
     return after(first + others + documents(n) + b"publish\n" * 3, b"searchin ^a/ abcd\n" * 10)
 
 
+def prefixes_of_a_find(n):
+    """Half of them begin no name. Some are under others."""
+    words = each(b"--under f# ", n) + each(b"--not-under g# ", n)
+    return after(published(500), b"find %s-- abcd\n" % words)
+
+
+def prefixes_that_are_too_many(n):
+    """The last one is one more than can be given."""
+    return after(SMALL, (b"find " + b"--under a " * 4_097 + b"-- x\n") * n)
+
+
+def documents_under_as_many_prefixes(n):
+    """Each prefix has one of the documents, all of which are candidates."""
+    made = b"".join(put(b"r%d/a" % number, b"abcd") for number in range(n))
+    return after(made + b"publish\n" * 3, b"find %s-- abcd\n" % each(b"--under r#/ ", n))
+
+
+def documents_that_are_left_out_by_prefixes(n):
+    return after(published(n), b"find %s-- abcd\n" % each(b"--not-under f# ", 64))
+
+
+def documents_beside_prefixes(n):
+    """Few documents are under the prefixes, and N others have trigrams that these have not."""
+    made = b"".join(put(b"r%d/a" % number, b"qrst") for number in range(64))
+    return after(made + published(n), b"find %s-- qrst\n" % each(b"--under r#/ ", 64))
+
+
 def puts_and_removes_beside_documents(n):
     return after(published(n), b"put g 11\nhello world\nremove g\n" * 20 + b"publish\n")
 
@@ -629,6 +656,11 @@ GROWTHS = [
     Row(candidates_that_are_few, 1000, (SESSION,), LEVEL, LEVEL),
     Row(candidates_that_are_few_under_a_prefix, 400, (SESSION,), LEVEL, LEVEL),
     Row(names_after_a_prefix, 1000, (SESSION,), LEVEL, LEVEL),
+    Row(prefixes_of_a_find, 1000, (SESSION,)),
+    Row(prefixes_that_are_too_many, 4, (SESSION,)),
+    Row(documents_under_as_many_prefixes, 1000, (SESSION,)),
+    Row(documents_that_are_left_out_by_prefixes, 500, (SESSION,)),
+    Row(documents_beside_prefixes, 500, (SESSION,), LEVEL, LEVEL),
     Row(candidates_behind_names_under_a_prefix, 500, (SESSION,), LEVEL, LEVEL),
     Row(puts_and_removes_beside_documents, 1000, (SESSION,), LEVEL, LEVEL),
     Row(few_candidates_with_common_trigrams, 1000, (SESSION,), LEVEL, LEVEL),

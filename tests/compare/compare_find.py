@@ -41,7 +41,9 @@ NAME_PATTERNS = [b"^src/", b"^a", b"^a/", b"^a/c.go$", rb"\.go$", rb"\.(c|go)$",
 PIECES = [b"a", b"b", b"ab", b"aB", b"ba", b"abc", b"a b", b"_a", b"a.b", b"a*", b"0", b"01", b" ", b" ", b"-", b".", b"\t", b"\xff"]
 WORDS = [b"a", b"ab", b"a|ab|b", b"ab|b|abc|c", b"(a|b)*", b"a*", b"b?", b"^", b"$", b"^a", b"b$", b"^$", b"", b".", b"a.b", b"a*b", b"[ab]+", b"(ab|a)(c|bcd)?", b"[^a ]", b"0|01"]
 # The options that grep has not, or means otherwise.
-NOT_OF_GREP = (b"-I", b"-q", b"--column", b"-n", b"-N")
+NOT_OF_GREP = (b"-I", b"-q", b"--column", b"-n", b"-N", b"--under", b"--not-under")
+# Some are under others, some are whole names, and some begin none.
+PREFIXES = [b"a", b"a/", b"a/c", b"a.", b"^a", b"A", b"b", b"B.c", b"main.go", b"s", b"src", b"src/", b"src/x/a.c", b"src/x/a.c/", b"z", b"zz", b"\xff", b".*"]
 
 
 def random_line(chance):
@@ -71,8 +73,8 @@ def random_finds(chance, count):
         pattern, _, is_repeated = Patterns(chance).alternatives(chance.randint(0, 3))
         if is_repeated:
             others.add(pattern)
-        names, left_out = chance.choice([(NAME_PATTERNS, []), ([], NOT_OF_GREP)])
-        finds.append(random_find(chance, [pattern, chance.choice(WORDS), chance.choice(WORDS)], names, left_out))
+        names, left_out, prefixes = chance.choice([(NAME_PATTERNS, [], []), ([], NOT_OF_GREP, []), ([], [], PREFIXES), (NAME_PATTERNS, [], PREFIXES)])
+        finds.append(random_find(chance, [pattern, chance.choice(WORDS), chance.choice(WORDS)], names, left_out, prefixes))
     return finds, others
 
 

@@ -240,6 +240,16 @@ FINDS = [
     (b"find -I -n B -N A -- ONE", found(b"lines 1", b"b:1:ONE"), found(b"lines 0"), found(b"lines 2", b"b:1:ONE", B2)),
     (b"find -n -- -- one", found(b"lines 0")),
     (b"find -n  -i -- one_", found(b"lines 1", B2)),
+    # what names begin with
+    (b"find --under b -- one", found(b"lines 1", B2), ALL),
+    (b"find --not-under b -- one", found(b"lines 3", A1, A3, A7), found(b"lines 1", B2), ALL),
+    (b"find --under c --under b --under a -- one", ALL, found(b"lines 0"), found(b"lines 1", B2)),
+    (b"find --under a --under b --not-under c --not-under a -- one", found(b"lines 1", B2), ALL),
+    (b"find --under A -I -- one", found(b"lines 0"), found(b"lines 3", A1, A3, A7)),
+    (b"find --under ^b -- one", found(b"lines 0"), found(b"lines 1", B2)),
+    (b"find --under bb -- one", found(b"lines 0"), found(b"lines 1", B2)),
+    (b"find --under b -n ^a -- one", found(b"lines 0"), found(b"lines 1", B2), found(b"lines 3", A1, A3, A7)),
+    (b"find --under -- -- one", found(b"lines 0")),
     # a zero byte after a name
     (b"find -Z -n b -- E", found(b"lines 1", b"b\x001:ONE"), found(b"lines 1", b"b:1:ONE"), found(b"lines 1", b"b\x001\0ONE")),
     (b"find -l -Z -- one_", found(b"names 1", b"b\0"), found(b"names 1", b"b")),
@@ -288,6 +298,13 @@ FIND_FAULTS = [
     (b"find -v -C 3 --spans -- one", b"-v and --spans exclude each other"),
     (b"find " + b"-n a " * 17 + b"-- one", b"option -n over 16 times"),
     (b"find " + b"-N a " * 17 + b"-z", b"option -N over 16 times"),
+    (b"find --under", b"option --under needs a word of 1 byte or more"),
+    (b"find -i --not-under  -- one", b"option --not-under needs a word of 1 byte or more"),
+    (b"find --under --", b"no -- before the pattern"),
+    (b"find --under a", b"no -- before the pattern"),
+    (b"find --underneath a -- one", b"bad option --underneath"),
+    (b"find " + b"--under a " * 4097 + b"-- one", b"option --under over 4096 times"),
+    (b"find " + b"--not-under a --under b " * 4096 + b"--not-under -z", b"option --not-under over 4096 times"),
     (b"find -n ( -- (", b"name pattern 1: group not closed at 0"),
     (b"find -N a -n a( -- (", b"name pattern 2: group not closed at 1"),
     (b"find " + b"-n a " * 16 + b"-N [ -- (", b"name pattern 17: bracket not closed at 0"),
@@ -305,6 +322,7 @@ FIND_NO_FAULTS = [
     b"find --",
     b"find -- ",
     b"find " + b"-n a " * 16 + b"-N b " * 16 + b"-- q",
+    b"find " + b"--not-under a --under b " * 4096 + b"-- q",
     b"find -m 0000000000000000000000000000000000000000000000000000004294967295 -- q",
     b"find -q -m 1 -- q",
     b"find -F -- ((((",
@@ -801,6 +819,7 @@ def random_item(chance, asked):
         + [b"isearch " + chance.choice([b"aB", b"^B|A$", b"[^b]", b"B+$"])] * 2
         + [b"isearchin %s B" % chance.choice([b"^a", b"^A|c"])]
         + [random_find(chance, [b"aB", b"ab", b"^b|a$", b"(ab)*", b"[^b]", b"a", b"a|ab|ba", b"zz", b""], [b"^a", b"^A|c", b"b$", b"/", b"^a/", b""])] * 8
+        + [random_find(chance, [b"ab", b"^b|a$", b"(ab)*", b"a", b""], [b"^a", b"b$", b"^a/"], (), [b"a", b"a/", b"a/b", b"A", b"c", b"ab", b"^a"])] * 4
         + [random_cancel(chance, asked)] * 5
         + [b"status"] * 2
         + [b"sync", b"load a /nothing/here", b"pull", b"cancel", b"cancel %dx" % asked, b"status %d" % asked]

@@ -9,14 +9,16 @@ import functools
 from judge import trees
 from judge.trees import Refused
 
-MOST_LINES, MOST_CONTEXT, MOST_NAMES = 4_294_967_295, 1_000, 16
+MOST_LINES, MOST_CONTEXT, MOST_NAMES, MOST_PREFIXES = 4_294_967_295, 1_000, 16, 4_096
 
-# The options that take a word, and those that take a number, with the least and the greatest. The others take nothing.
+# The options that take a word, those that take one of a byte or more, which names begin with, and those that take a number, with the least
+# and the greatest. The others take nothing.
 WORDS = (b"-n", b"-N")
+PREFIXES = (b"--under", b"--not-under")
 NUMBERS = {b"-m": (1, MOST_LINES), b"-C": (0, MOST_CONTEXT)}
 MARKS = (b"--column", b"--spans")
 VIEWS = (b"-l", b"-c", b"-q", b"-C", *MARKS)
-OPTIONS = (b"-i", b"-F", b"-w", b"-x", b"-v", *WORDS, b"-I", b"-m", *VIEWS, b"-Z")
+OPTIONS = (b"-i", b"-F", b"-w", b"-x", b"-v", *WORDS, *PREFIXES, b"-I", b"-m", *VIEWS, b"-Z")
 
 # The words of the other searches: whether it has a name pattern, and whether it ignores case in its pattern.
 OTHERS = {b"search": (False, False), b"searchin": (True, False), b"isearch": (False, True), b"isearchin": (True, True)}
@@ -41,6 +43,10 @@ def said(line):
             if not left:
                 raise Refused("no -- before the pattern")
             value, _, left = left.partition(b" ")
+        elif word in PREFIXES:
+            value, _, left = left.partition(b" ")
+            if not value:
+                raise Refused(f"option {word.decode()} needs a word of 1 byte or more")
         elif word in NUMBERS:
             digits, _, left = left.partition(b" ")
             value = number_of(word, digits)
@@ -53,12 +59,13 @@ def check_option(option, earlier):
     if option not in OPTIONS:
         raise Refused(f"bad option {shown}")
     for other in earlier:
-        if other == option and option not in WORDS:
+        if other == option and option not in WORDS + PREFIXES:
             raise Refused(f"option {shown} twice")
         if other != option and exclude(other, option):
             raise Refused(f"{other.decode()} and {shown} exclude each other")
-    if earlier.count(option) == MOST_NAMES:
-        raise Refused(f"option {shown} over {MOST_NAMES} times")
+    most = MOST_PREFIXES if option in PREFIXES else MOST_NAMES
+    if earlier.count(option) == most:
+        raise Refused(f"option {shown} over {most} times")
 
 
 def number_of(option, digits):
@@ -153,9 +160,10 @@ def bits_from(first, last):
 class Search:
     """What a search asks for."""
 
-    def __init__(self, test, names, options):
-        """The test of lines; tests of names, each with whether names must have a match; and the other options with their values."""
-        self.test, self.names = test, names
+    def __init__(self, test, names, options, under=(), not_under=()):
+        """The test of lines; tests of names, each with whether names must have a match; the other options with their values; and what names
+        must begin with one of, if there are any, and with none of."""
+        self.test, self.names, self.under, self.not_under = test, names, tuple(under), tuple(not_under)
         self.inverts, self.limit, self.zero = b"-v" in options, options.get(b"-m"), b"-Z" in options
         self.view = next((option for option in options if option in VIEWS), None)
         self.context = options.get(b"-C", 0)
@@ -165,7 +173,7 @@ class Search:
         """The lines that are found, counted from 0, by the documents that have any, in the order of names."""
         found = {}
         for name in sorted(documents):
-            if any_name or all(bool(test.lines_with_match(name)) == wanted for test, wanted in self.names):
+            if any_name or self.admits(name):
                 matched = self.test.lines_with_match(documents[name])
                 if self.inverts:
                     count, matched = len(lines_of(documents[name]).texts), set(matched)
@@ -173,6 +181,12 @@ class Search:
                 if matched:
                     found[name] = matched
         return found
+
+    def admits(self, name):
+        """Whether a document of this name is searched."""
+        if self.under and not name.startswith(self.under) or name.startswith(self.not_under):
+            return False
+        return all(bool(test.lines_with_match(name)) == wanted for test, wanted in self.names)
 
     def begin(self, name, mark):
         return name + (b"\0" if self.zero else mark)
@@ -243,15 +257,16 @@ def read(line):
     if word == b"find":
         options, pattern = said(line)
         names = [(value, option == b"-n") for option, value in options if option in WORDS]
-        return search_of(pattern, dict(options), [(f"name pattern {number}", *name) for number, name in enumerate(names, 1)])
+        prefixes = [[value for option, value in options if option == wanted] for wanted in PREFIXES]
+        return search_of(pattern, dict(options), [(f"name pattern {number}", *name) for number, name in enumerate(names, 1)], *prefixes)
     is_named, ignores_case = OTHERS[word]
     name, _, pattern = rest.partition(b" ") if is_named else (None, None, rest)
     return search_of(pattern, {b"-i": None} if ignores_case else {}, [("name pattern", name, True)] if is_named else [])
 
 
-def search_of(pattern, options, names):
+def search_of(pattern, options, names, under=(), not_under=()):
     """The search of a pattern with these options, and with patterns of names: what each is called, the pattern, and whether names must
-    have a match of it. They are looked at first."""
+    have a match of it. They are looked at first. The last two are prefixes of names."""
     tests = []
     for called, name, wanted in names:
         try:
@@ -259,7 +274,7 @@ def search_of(pattern, options, names):
         except Refused as refused:
             raise Refused(f"{called}: {refused}") from None
     edge = b"-x" if b"-x" in options else b"-w" if b"-w" in options else None
-    return Search(Test(pattern, b"-i" in options, b"-F" in options, edge), tests, options)
+    return Search(Test(pattern, b"-i" in options, b"-F" in options, edge), tests, options, under, not_under)
 
 
 def is_search(line):

@@ -1,5 +1,5 @@
 -- What the options of a search ask for.
-use Rattle.std.proofs.Common.{◌≡◌, ℕ, suc, ◌+◌, ◌<◌, ◌≤◌, Bool, true, false, not, List, [], ◌∷◌, ◌++◌, map, length, take, get_or, Some, None, refl, sym, ◌∙◌, ap, subst, arith}
+use Rattle.std.proofs.Common.{◌≡◌, ℕ, suc, ◌+◌, ◌<◌, ◌≤◌, ◌==◌, Bor, Bool, true, false, not, List, [], ◌∷◌, ◌++◌, map, length, take, get_or, Some, None, refl, sym, ◌∙◌, ap, subst, arith}
 use Rattle.std.specs.Prelude.{◌||◌, ◌&&◌, if◌then◌else◌, slice_get, option_map}
 use Rattle.std.proofs.Math.Seq.{take-suc}
 use Rattle.std.proofs.lemmas.List.{length-map, take_all}
@@ -16,6 +16,7 @@ use Rattle.query.proofs.Forms.{formula_of-Any}
 use Rattle.query.specs.declared.query.Query.{Query}
 use Rattle.query.specs.declared.query.Query.TheVariants.{Any}
 use Rattle.query.specs.Query.{formula_of, is_met, IsPlainFor}
+use Rattle.prefixes.specs.Under.{is_under_one, is_within}
 use Rattle.request.specs.Find.{NameTest, Options}
 use Rattle.request.specs.Shown.{shown_test}
 use Rattle.request.specs.declared.options.NameTest as program
@@ -81,6 +82,23 @@ word_inside options words line tree same is =
     go true false = refl
     go false true = refl
     go false false = refl
+
+-- ---- what names begin with
+
+-- the prefixes of the options, as they are kept
+pub within_kept : (under not_under : List (List ℕ)) (lent lent_not given given_not : List (Bor (List ℕ))) (name : List ℕ) → lent ≡ given
+    → lent_not ≡ given_not → is_under_one under name ≡ is_under_one (map (λ text. text.now) lent) name → (length under == 0) ≡ (length lent == 0)
+    → is_under_one not_under name ≡ is_under_one (map (λ text. text.now) lent_not) name
+    → is_within under not_under name ≡ is_within (map (λ text. text.now) given) (map (λ text. text.now) given_not) name
+within_kept under not_under lent lent_not given given_not name is is_not one none other =
+    ap (λ t. (t || is_under_one under name) && not (is_under_one not_under name))
+    (none ∙ (ap (λ xs. length xs == 0) is ∙ ap (λ n. n == 0) (sym (length-map given (λ text. text.now)))))
+    ∙ (ap (λ t. (length (map (λ text. text.now) given) == 0 || t) && not (is_under_one not_under name))
+    (one ∙ ap (λ xs. is_under_one (map (λ text. text.now) xs) name) is)
+    ∙ ap (λ t. is_asked given && not t) (other ∙ ap (λ xs. is_under_one (map (λ text. text.now) xs) name) is_not))
+  where
+    is_asked : List (Bor (List ℕ)) → Bool
+    is_asked texts = length (map (λ text. text.now) texts) == 0 || is_under_one (map (λ text. text.now) texts) name
 
 -- ---- conditions
 

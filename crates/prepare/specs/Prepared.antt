@@ -1,13 +1,14 @@
 -- What a prepared search asks for.
 use Rattle.std.specs.Prelude.{map, Some, None, if◌then◌else◌}
 use Rattle.ere.specs.Tree.{Tree, Trees, cat, more, form}
+use Rattle.prefixes.specs.Under.{is_within}
 use Rattle.prepare.specs.declared.pattern.Prepared.{Prepared}
 use Rattle.prepare.specs.Pattern.{Pattern}
 use Rattle.prepare.specs.Request.{Request}
 use Rattle.prepare.specs.Tests.{test_of}
 
 abbrev pub pattern_of : Prepared → Pattern
-pattern_of p = record { line = test_of p.line; names = map test_of p.names.items }
+pattern_of p = record { line = test_of p.line; names = map test_of p.names.items; within = is_within p.under p.not_under }
 
 -- the second of these trees, or another if there are not so many
 abbrev pub second : Trees → Tree → Tree

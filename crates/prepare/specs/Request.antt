@@ -8,6 +8,7 @@ use Rattle.ere.specs.Literal.{IsPatternText, literal_tree, NamesTextFault}
 use Rattle.ere.specs.Tree.{Tree}
 use Rattle.ere.specs.declared.case.Case.{Case}
 use Rattle.ere.specs.declared.error.EreError.{EreError}
+use Rattle.prefixes.specs.Under.{is_within}
 use Rattle.request.specs.Find.{NameTest, Options}
 use Rattle.request.specs.declared.options.View.{View}
 use Rattle.request.specs.declared.options.View.TheVariants as view
@@ -59,6 +60,7 @@ pub record IsRequestOf (options : Options) (text : List ℕ) (request : Request)
   pub is_tree : IsTreeFor options text tree
   pub line : request.pattern.line ≡ record { tree = asked_tree options tree; inverted = options.invert }
   pub names : AreTestsOf options.name_case options.names request.pattern.names
+  pub within : request.pattern.within ≡ is_within options.under options.not_under
   pub word : request.word ≡ (if asks_for_words options then Some tree else None)
   pub view : request.view ≡ options.view
   pub limit : request.limit ≡ options.limit

@@ -4,6 +4,7 @@
 
 mod anchored;
 mod asked;
+mod begun;
 mod front;
 mod pattern;
 mod requested;

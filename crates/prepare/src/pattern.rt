@@ -12,6 +12,7 @@ ghost use Rattle.prepare.specs.Tests.{test_of};
 
 use crate::asked::Test;
 use ere::{Case, Ere, EreError, EreErrorKind, parse, parse_with};
+use prefixes::Prefixes;
 use request::View;
 use std::alloc::Global;
 use trigram::{Query, analyse};
@@ -25,6 +26,10 @@ pub struct Prepared {
     pub line: Test,
     /// The tests of names. A name has to pass all of them.
     pub names: Vec<Test>,
+    /// The prefixes with one of which a name has to begin, if there are any.
+    pub under: Prefixes,
+    /// The prefixes with none of which a name may begin.
+    pub not_under: Prefixes,
     /// The condition of the test of lines: the trigrams of every document with a hit meet it.
     pub query: Query,
     /// Whether only whole words count. The tree of the test of lines then has the edges of words.
@@ -49,7 +54,7 @@ pub struct WithinError {
 
 impl Prepared {
     ghost use Rattle.std.specs.Prelude.{◌≡◌, ◌≢◌, map, IfOk, IfErr, MatchBool};
-    ghost use Rattle.prepare.specs.Pattern.{IsPatternOf, IsPatternWithin, IsTreeFault, HasTree};
+    ghost use Rattle.prepare.specs.Pattern.{IsPatternOf, IsPatternWithin, IsTreeFault, HasTree, any_name};
     ghost use Rattle.prepare.specs.Prepared.{pattern_of, request_of};
     ghost use Rattle.prepare.specs.Queries.{IsQueryOf};
     ghost use Rattle.prepare.specs.Request.{all_lines_of};
@@ -78,7 +83,7 @@ impl Prepared {
         ensures refused { IfErr result (λ e. e.kind ≢ EreErrorKind.OutOfMemory → IsTreeFault case pattern.now e) }
     {
         let (line, query) = analysed(alloc, pattern, case)?;
-        Ok(Prepared::all_lines(line, Vec::new(alloc), query))
+        Ok(Prepared::all_lines(alloc, line, Vec::new(alloc), query))
     }
 
     /// Reads the patterns of a search in the documents whose names, each taken as a line, contain a match of the name
@@ -125,7 +130,7 @@ impl Prepared {
             }
         };
         match analysed(alloc, pattern, case) {
-            Ok((line, query)) => Ok(Prepared::all_lines(line, names, query)),
+            Ok((line, query)) => Ok(Prepared::all_lines(alloc, line, names, query)),
             Err(error) => Err(WithinError {
                 in_name: false,
                 error,
@@ -134,15 +139,18 @@ impl Prepared {
     }
 
     /// A search for the lines that pass the first test, in the documents whose names pass the others, which shows all lines.
-    fn all_lines(line: Test, names: Vec<Test>, query: Query) -> Prepared
+    fn all_lines(alloc: Global, line: Test, names: Vec<Test>, query: Query) -> Prepared
         requires { IsQueryOf (test_of line) query }
         ensures line { test_of result.line ≡ test_of line }
         ensures names { map test_of result.names.items ≡ map test_of names.items }
+        ensures within { (pattern_of result).within ≡ any_name }
         ensures request { request_of result ≡ all_lines_of (pattern_of result) }
     {
         Prepared {
             line,
             names,
+            under: Prefixes::none(alloc),
+            not_under: Prefixes::none(alloc),
             query,
             words: false,
             view: View::Lines,

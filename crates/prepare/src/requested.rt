@@ -1,10 +1,11 @@
 //! Searches with options.
 
-ghost use Rattle.std.specs.Prelude.{◌≡◌, ◌≢◌, ◌++◌, ◌∷◌, [], ℕ, List, IfOk, IfErr, OnOk, map};
+ghost use Rattle.std.specs.Prelude.{◌≡◌, ◌≢◌, ◌++◌, ◌∷◌, ◌==◌, [], ℕ, List, IfOk, IfErr, OnOk, length, map};
 ghost use Rattle.ere.specs.Edges.{IsSizeFault};
 ghost use Rattle.ere.specs.Limits.{IsWithinLimits};
 ghost use Rattle.ere.specs.Literal.{IsPatternText, NamesTextFault};
 ghost use Rattle.ere.specs.Tree.{Tree, form};
+ghost use Rattle.prefixes.specs.Under.{is_under_one};
 ghost use Rattle.request.specs.Shown.{shown_options, shown_test};
 ghost use Rattle.prepare.specs.Pattern.{IsTreeFault, Test as TestValue};
 ghost use Rattle.prepare.specs.Queries.{IsQueryOf};
@@ -14,6 +15,7 @@ ghost use Rattle.prepare.specs.Tests.{test_of};
 use crate::asked::Test;
 use crate::pattern::{Prepared, out_of_memory};
 use ere::{Case, Ere, EreError, EreErrorKind, as_line, as_word, literal, one_tree, parse_with};
+use prefixes::Prefixes;
 use request::{Find, FindOptions, NameTest};
 use std::alloc::Global;
 use trigram::{Query, analyse};
@@ -45,10 +47,14 @@ impl Prepared {
     {
         let options = &find.options;
         let names = tests_of(alloc, options)?;
+        let under = prefixes_of(alloc, options.under.as_slice())?;
+        let not_under = prefixes_of(alloc, options.not_under.as_slice())?;
         match asked_of(alloc, options, find.pattern) {
             Ok((line, query)) => Ok(Prepared {
                 line,
                 names,
+                under,
+                not_under,
                 query,
                 words: asks_for_words(options),
                 view: options.view,
@@ -57,6 +63,21 @@ impl Prepared {
             }),
             Err(error) => Err(FindError { name: 0, error }),
         }
+    }
+}
+
+/// These prefixes. An `Err` is `OutOfMemory`.
+fn prefixes_of(alloc: Global, texts: &[&[u8]]) -> Result<Prefixes, FindError>
+    ensures names { IfOk result (λ prefixes. (name : List ℕ) → is_under_one prefixes name ≡ is_under_one (map (λ text. text.now) texts.now) name) }
+    ensures none { IfOk result (λ prefixes. (length prefixes == 0) ≡ (length texts.now == 0)) }
+    ensures err { IfErr result (λ e. e.error.kind ≡ EreErrorKind.OutOfMemory) }
+{
+    match Prefixes::of(alloc, texts) {
+        Ok(prefixes) => Ok(prefixes),
+        Err(_) => Err(FindError {
+            name: 0,
+            error: out_of_memory(),
+        }),
     }
 }
 

@@ -1,5 +1,6 @@
 mod ListLemmas
 mod NameLemmas
 mod SettingLemmas
+mod TallyLemmas
 mod Refusals
 mod OptionLemmas

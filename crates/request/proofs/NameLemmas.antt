@@ -4,7 +4,7 @@ use Rattle.std.proofs.lemmas.Slice.Eq.{bytes_eq-Decides}
 use Rattle.request.specs.Names.{clashes, excludes, is_repeatable, is_same, option_named, text_of}
 use Rattle.request.specs.declared.names.OptionName.{OptionName}
 use Rattle.request.specs.declared.names.OptionName.TheVariants.{IgnoreCase, Literal, WholeWords, WholeLines, Invert, Named, NotNamed}
-use Rattle.request.specs.declared.names.OptionName.TheVariants.{IgnoreNameCase, Limit, Names, Counts, Header, Context, Column, Spans, Zero, Lane}
+use Rattle.request.specs.declared.names.OptionName.TheVariants.{IgnoreNameCase, Limit, Names, Counts, Header, Context, Column, Spans, Zero, Lane, Under, NotUnder}
 
 -- The word of an option names it.
 pub named_back : (name : OptionName) → option_named (text_of name) ≡ Some name
@@ -26,6 +26,8 @@ named_back Column = refl
 named_back Spans = refl
 named_back Zero = refl
 named_back Lane = refl
+named_back Under = refl
+named_back NotUnder = refl
 
 pub same_name : (left right : OptionName) → is_same left right ≡ true → left ≡ right
 same_name left right h =
@@ -48,6 +50,8 @@ same_itself name = (bytes_eq-Decides (text_of name) (text_of name)).1 refl
 repeatable_free : (name : OptionName) → is_repeatable name ≡ true → clashes name name ≡ false
 repeatable_free Named h = refl
 repeatable_free NotNamed h = refl
+repeatable_free Under h = refl
+repeatable_free NotUnder h = refl
 repeatable_free _ h = absurd (cc)
 
 pub free_if_repeatable : (left right : OptionName) → is_same left right ≡ true → is_repeatable right ≡ true → clashes left right ≡ false

@@ -6,8 +6,8 @@ use Rattle.std.proofs.lemmas.Bool.Decides.{nat_tests}
 use Rattle.std.proofs.lemmas.List.{append-nil}
 use Rattle.request.specs.Faults.{IsFaultAt, IsFirstFault, IsNamed, first_clash, reason_of}
 use Rattle.request.specs.Find.{HasNoFind, IsFindOf, Options, SpellsFind, options_of}
-use Rattle.request.specs.Names.{clashes, is_same, option_named, takes}
-use Rattle.request.specs.Settings.{Argument, IsAllowed, Setting, SpellsArgument, SpellsSetting, SpellsSettings, count_of, greatest_times, number}
+use Rattle.request.specs.Names.{clashes, greatest_times, is_same, option_named, takes}
+use Rattle.request.specs.Settings.{Argument, IsAllowed, Setting, SpellsArgument, SpellsSetting, SpellsSettings, count_of, number}
 use Rattle.request.specs.Settings.{SpellsSettings as spelled}
 use Rattle.request.specs.Words.{after_word, first_word}
 use Rattle.request.specs.declared.fault.FindFault.{FindFault}
@@ -219,7 +219,7 @@ said name None false (Number least greatest) = reason_of (NeedsNumber name)
 abbrev said_at : List Setting → Option OptionName → List ℕ → List ℕ
 said_at settings None [] = reason_of NoSeparator
 said_at settings None (b ∷ text) = codes "bad option " ++ first_word (b ∷ text)
-said_at settings (Some name) text = said name (first_clash name settings) (nat_le greatest_times (count_of name settings)) (takes name)
+said_at settings (Some name) text = said name (first_clash name settings) (nat_le (greatest_times name) (count_of name settings)) (takes name)
 
 module _ (settings : List Setting) where
   abbrev said_here : List ℕ → List ℕ
@@ -227,22 +227,22 @@ module _ (settings : List Setting) where
 
   -- of an option that the first word names, which clashes with nothing
   said_free : (text : List ℕ) (name : OptionName) (often : Bool) (taken : Takes) → IsNamed text name → first_clash name settings ≡ None
-      → nat_le greatest_times (count_of name settings) ≡ often → takes name ≡ taken → said_here text ≡ said name None often taken
+      → nat_le (greatest_times name) (count_of name settings) ≡ often → takes name ≡ taken → said_here text ≡ said name None often taken
   said_free text name often taken named free times is =
-      ap (λ o. said_at settings o text) named ∙ ap (λ o. said name o (nat_le greatest_times (count_of name settings)) (takes name)) free
+      ap (λ o. said_at settings o text) named ∙ ap (λ o. said name o (nat_le (greatest_times name) (count_of name settings)) (takes name)) free
       ∙ ap (λ b. said name None b (takes name)) times ∙ ap (said name None often) is
 
   -- and of one that clashes
   said_clash : (text : List ℕ) (name earlier : OptionName) (same : Bool) → IsNamed text name → first_clash name settings ≡ Some earlier
       → is_same earlier name ≡ same → said_here text ≡ cond same (reason_of (Twice name)) (reason_of (Exclude earlier name))
   said_clash text name earlier same named clash is =
-      ap (λ o. said_at settings o text) named ∙ ap (λ o. said name o (nat_le greatest_times (count_of name settings)) (takes name)) clash
+      ap (λ o. said_at settings o text) named ∙ ap (λ o. said name o (nat_le (greatest_times name) (count_of name settings)) (takes name)) clash
       ∙ ap (λ b. cond b (reason_of (Twice name)) (reason_of (Exclude earlier name))) is
 
-  few_times : (name : OptionName) → count_of name settings < greatest_times → nat_le greatest_times (count_of name settings) ≡ false
+  few_times : (name : OptionName) → count_of name settings < greatest_times name → nat_le (greatest_times name) (count_of name settings) ≡ false
   few_times name few = grind (arith, nat_tests, few)
 
-  many_times : (name : OptionName) → greatest_times ≤ count_of name settings → nat_le greatest_times (count_of name settings) ≡ true
+  many_times : (name : OptionName) → greatest_times name ≤ count_of name settings → nat_le (greatest_times name) (count_of name settings) ≡ true
   many_times name many = grind (arith, nat_tests, many)
 
   other_name : (earlier name : OptionName) → earlier ≢ name → is_same earlier name ≡ false

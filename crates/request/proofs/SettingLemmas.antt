@@ -7,9 +7,9 @@ use Rattle.std.proofs.lemmas.List.{take_all}
 use Rattle.std.proofs.lemmas.List.Elements.{All-map}
 use Rattle.std.proofs.lemmas.List.Quantifiers.{all_pairs_push}
 use Rattle.request.specs.Faults.{IsFree, first_clash}
-use Rattle.request.specs.Names.{clashes, is_same}
+use Rattle.request.specs.Names.{clashes, greatest_times, is_same}
 use Rattle.request.specs.Private.Kept.{shown_setting, shown_settings}
-use Rattle.request.specs.Settings.{IsAllowed, Setting, SpellsSetting, SpellsSettings, count_of, greatest_times}
+use Rattle.request.specs.Settings.{IsAllowed, Setting, SpellsSetting, SpellsSettings, count_of}
 use Rattle.request.specs.Settings.{SpellsSettings as spelled}
 use Rattle.request.specs.declared.names.OptionName.{OptionName}
 use Rattle.request.specs.declared.settings.Setting as kept
@@ -39,10 +39,10 @@ allowed_push settings setting allowed free = record {
   few = λ name. few name (is_same setting.name name) refl;
 }
   where
-    few : (name : OptionName) (t : Bool) → is_same setting.name name ≡ t → count_of name (settings ++ setting ∷ []) ≤ greatest_times
+    few : (name : OptionName) (t : Bool) → is_same setting.name name ≡ t → count_of name (settings ++ setting ∷ []) ≤ greatest_times name
     few name true same =
         let equal : setting.name ≡ name = same_name setting.name name same in
-        let room : count_of name settings < greatest_times = subst (λ n. count_of n settings < greatest_times) equal free.few in
+        let room : count_of name settings < greatest_times name = subst (λ n. count_of n settings < greatest_times n) equal free.few in
         omega (arith, count_by-append (λ s. is_same s.name name) settings (setting ∷ []), counted setting name true same, room)
     few name false other =
         omega (arith, count_by-append (λ s. is_same s.name name) settings (setting ∷ []), counted setting name false other, allowed.few name)

@@ -25,6 +25,9 @@ pub record Options : Type 0 where
   pub whole_lines : Bool
   pub invert : Bool
   pub names : List NameTest
+  -- the prefixes with one of which a name must begin, if there are any, and those with none of which it may begin
+  pub under : List (List ℕ)
+  pub not_under : List (List ℕ)
   pub name_case : Case
   pub limit : Option ℕ
   pub view : View
@@ -45,6 +48,11 @@ abbrev pub test_in : OptionName → Argument → Option NameTest
 test_in option.Named (argument.text pattern) = Some (record { pattern = pattern; wanted = true })
 test_in option.NotNamed (argument.text pattern) = Some (record { pattern = pattern; wanted = false })
 test_in _ _ = None
+
+-- the prefix that this option gives, if it gives one
+abbrev pub prefix_in : OptionName → OptionName → Argument → Option (List ℕ)
+prefix_in of name (argument.text prefix) = if is_same of name then Some prefix else None
+prefix_in of name _ = None
 
 -- the most lines, or names, that an option gives, if it gives that
 abbrev pub limit_in : OptionName → Argument → Option ℕ
@@ -76,6 +84,8 @@ options_of settings = record {
   whole_lines = has_option option.WholeLines settings;
   invert = has_option option.Invert settings;
   names = filter_map (λ setting. test_in setting.name setting.argument) settings;
+  under = filter_map (λ setting. prefix_in option.Under setting.name setting.argument) settings;
+  not_under = filter_map (λ setting. prefix_in option.NotUnder setting.name setting.argument) settings;
   name_case = case_if (has_option option.IgnoreNameCase settings);
   limit = slice_get (filter_map (λ setting. limit_in setting.name setting.argument) settings) 0;
   view = unwrap_or (slice_get (filter_map (λ setting. view_in setting.name setting.argument) settings) 0) view.Lines;

@@ -4,7 +4,7 @@ use Rattle.std.specs.Prelude.{ℕ, Bool, true, false, not, ◌&&◌, ◌||◌, L
 use Rattle.std.specs.Str.{bytes_eq}
 use Rattle.request.specs.declared.names.OptionName.{OptionName}
 use Rattle.request.specs.declared.names.OptionName.TheVariants.{IgnoreCase, Literal, WholeWords, WholeLines, Invert, Named, NotNamed}
-use Rattle.request.specs.declared.names.OptionName.TheVariants.{IgnoreNameCase, Limit, Names, Counts, Header, Context, Column, Spans, Zero, Lane}
+use Rattle.request.specs.declared.names.OptionName.TheVariants.{IgnoreNameCase, Limit, Names, Counts, Header, Context, Column, Spans, Zero, Lane, Under, NotUnder}
 use Rattle.request.specs.declared.names.Takes.{Takes}
 use Rattle.request.specs.declared.names.Takes.TheVariants.{Nothing, Word, ShortWord, Number}
 use Rattle.request.specs.declared.names.TheConstants.{ALL}
@@ -28,6 +28,8 @@ text_of Column = codes "--column"
 text_of Spans = codes "--spans"
 text_of Zero = codes "-Z"
 text_of Lane = codes "--lane"
+text_of Under = codes "--under"
+text_of NotUnder = codes "--not-under"
 
 -- the option of a word, if it is one's
 unfoldable pub option_named : List ℕ → Option OptionName
@@ -38,6 +40,8 @@ abbrev pub takes : OptionName → Takes
 takes Named = Word
 takes NotNamed = Word
 takes Lane = ShortWord 64
+takes Under = ShortWord 4294967295
+takes NotUnder = ShortWord 4294967295
 takes Limit = Number 1 4294967295
 takes Context = Number 0 1000
 takes _ = Nothing
@@ -47,6 +51,11 @@ abbrev pub range_text : OptionName → List ℕ
 range_text Context = codes "0 to 1000"
 range_text _ = codes "1 to 4294967295"
 
+-- the lengths of the word of an option that takes such a one, in words; no line has a word of over 4,294,967,295 bytes
+abbrev pub length_text : OptionName → List ℕ
+length_text Lane = codes "1 to 64 bytes"
+length_text _ = codes "1 byte or more"
+
 -- whether two options are the same
 abbrev pub is_same : OptionName → OptionName → Bool
 is_same left right = bytes_eq (text_of left) (text_of right)
@@ -55,7 +64,21 @@ is_same left right = bytes_eq (text_of left) (text_of right)
 abbrev pub is_repeatable : OptionName → Bool
 is_repeatable Named = true
 is_repeatable NotNamed = true
+is_repeatable Under = true
+is_repeatable NotUnder = true
 is_repeatable _ = false
+
+-- how often an option that can be there more than once can be there
+abbrev pub greatest_times : OptionName → ℕ
+greatest_times Under = 4096
+greatest_times NotUnder = 4096
+greatest_times _ = 16
+
+-- the same in words
+abbrev pub times_text : OptionName → List ℕ
+times_text Under = codes "4096"
+times_text NotUnder = codes "4096"
+times_text _ = codes "16"
 
 -- the options that say what is written for each line or document that is found
 abbrev pub is_view : OptionName → Bool

@@ -3,7 +3,7 @@ use Rattle.std.specs.Prelude.{◌≡◌, ◌≢◌, ℕ, ◌<◌, ◌≤◌, IsF
 use Rattle.std.specs.List.{AllPairs, AllPass}
 use Rattle.ere.specs.Classes.{is_digit}
 use Rattle.ere.specs.Tokens.{decimal_value}
-use Rattle.request.specs.Names.{clashes, is_same, option_named, takes}
+use Rattle.request.specs.Names.{clashes, greatest_times, is_same, option_named, takes}
 use Rattle.request.specs.Words.{after_word, first_word}
 use Rattle.request.specs.declared.names.OptionName.{OptionName}
 use Rattle.request.specs.declared.names.Takes.{Takes}
@@ -50,11 +50,7 @@ pub data SpellsSettings : List ℕ → List ℕ → List Setting → Type 0 wher
 abbrev pub count_of : OptionName → List Setting → ℕ
 count_of name settings = count_by (λ setting. is_same setting.name name) settings
 
--- how often an option that can be repeated can be there
-abbrev pub greatest_times : ℕ
-greatest_times = 16
-
 -- The settings go together, and none is there too often.
 pub record IsAllowed (settings : List Setting) : Type 0 where
   pub together : AllPairs (λ earlier later. IsFalse (clashes earlier.name later.name)) settings
-  pub few : (name : OptionName) → count_of name settings ≤ greatest_times
+  pub few : (name : OptionName) → count_of name settings ≤ greatest_times name

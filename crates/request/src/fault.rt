@@ -1,7 +1,7 @@
 //! Why a `find` is refused.
 
 ghost use Rattle.std.specs.Prelude.{◌≡◌, ◌++◌, OnOk, codes};
-ghost use Rattle.request.specs.Names.{range_text, text_of};
+ghost use Rattle.request.specs.Names.{length_text, range_text, text_of, times_text};
 
 use crate::names::OptionName;
 use std::alloc::{AllocError, AllocFailed};
@@ -13,7 +13,7 @@ pub enum FindFault<'t> {
     BadOption(&'t [u8]),
     /// The option is there already.
     Twice(OptionName),
-    /// The option is there 16 times already.
+    /// The option is there as often as it can be.
     TooOften(OptionName),
     /// The option is not followed by a number within its range.
     NeedsNumber(OptionName),
@@ -49,13 +49,9 @@ impl FindFault<'_> {
         match self {
             FindFault::BadOption(word) => add(text, b"bad option ", word),
             FindFault::Twice(name) => add_option(text, *name, b" twice"),
-            FindFault::TooOften(name) => add_option(text, *name, b" over 16 times"),
+            FindFault::TooOften(name) => add_option(text, *name, too_often(*name)),
             FindFault::NeedsNumber(name) => add_option(text, *name, needed(*name)),
-            FindFault::NeedsWord(name) => add_option(
-                text,
-                *name,
-                b" needs a word of 1 to 64 bytes",
-            ),
+            FindFault::NeedsWord(name) => add_option(text, *name, needed_word(*name)),
             FindFault::Exclude(earlier, name) => {
                 add(text, earlier.text().as_bytes(), b" and ")?;
                 add(text, name.text().as_bytes(), b" exclude each other")
@@ -89,5 +85,26 @@ fn needed(name: OptionName) -> &'static [u8]
     match name {
         OptionName::Context => b" needs a number from 0 to 1000",
         _ => b" needs a number from 1 to 4294967295",
+    }
+}
+
+/// What is said of an option that is there too often.
+fn too_often(name: OptionName) -> &'static [u8]
+    ensures { result.now ≡ codes " over " ++ times_text name ++ codes " times" }
+{
+    match name {
+        OptionName::Under => b" over 4096 times",
+        OptionName::NotUnder => b" over 4096 times",
+        _ => b" over 16 times",
+    }
+}
+
+/// What is said of an option without its word.
+fn needed_word(name: OptionName) -> &'static [u8]
+    ensures { result.now ≡ codes " needs a word of " ++ length_text name }
+{
+    match name {
+        OptionName::Lane => b" needs a word of 1 to 64 bytes",
+        _ => b" needs a word of 1 byte or more",
     }
 }

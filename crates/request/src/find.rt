@@ -8,7 +8,7 @@ ghost use Rattle.request.specs.Shown.{shown_options};
 
 use crate::fault::FindFault;
 use crate::options::{FindOptions, options_of};
-use crate::settings::{Setting, take_setting};
+use crate::settings::{Earlier, Setting, take_setting};
 use crate::words::cut_word;
 use std::alloc::Global;
 
@@ -24,7 +24,7 @@ pub struct Find<'t> {
 /// Reads what follows `find ` in its line: options in any order, the word `--`, and the pattern, which can have spaces.
 ///
 /// A word ends at a space, so two spaces have an empty word between them. Each option can be there once, `-n` and `-N`
-/// up to 16 times. Of `-l`, `-c`, `-q`, `-C`, `--column` and `--spans` only one can be there, and `-v` with neither
+/// up to 16 times, and `--under` and `--not-under` up to 4,096 times. Of `-l`, `-c`, `-q`, `-C`, `--column` and `--spans` only one can be there, and `-v` with neither
 /// `--column` nor `--spans`. What follows `-n` and `-N` is the next word, whatever it is; a number is one or more
 /// decimal digits. (This program's own language.)
 ///
@@ -55,18 +55,18 @@ fn read_settings<'t>(alloc: Global, text: &'t [u8]) -> Result<Read<'t>, FindFaul
     ensures ok { IfOk result (λ read. SpellsFind text.now (shown_settings read.settings.items) read.pattern.now) }
     ensures err { IfErr result (λ fault. fault ≢ FindFault.OutOfMemory → IsFirstFault text.now fault) }
 {
-    let mut settings = Vec::new(alloc);
+    let mut earlier = Earlier::none(alloc);
     let mut left = text;
     loop {
         let cut = cut_word(left);
         if cut.word == b"--".as_slice() {
             return Ok(Read {
-                settings,
+                settings: earlier.settings,
                 pattern: cut.after,
             });
         }
-        let taken = take_setting(&settings, left)?;
-        settings.push(taken.setting)?;
+        let taken = take_setting(&earlier, left)?;
+        earlier.push(taken.setting)?;
         left = taken.rest;
     }
 }

@@ -1,7 +1,7 @@
 //! The names of the options.
 
 ghost use Rattle.std.specs.Prelude.{◌≡◌};
-ghost use Rattle.request.specs.Names.{clashes, excludes, is_mark, is_repeatable, is_same, is_view, option_named, takes, text_of};
+ghost use Rattle.request.specs.Names.{clashes, excludes, greatest_times, is_mark, is_repeatable, is_same, is_view, option_named, takes, text_of};
 
 /// The options of a `find`.
 #[derive(Clone, Copy, Debug, PartialEq, Eq)]
@@ -40,10 +40,14 @@ pub enum OptionName {
     Zero,
     /// `--lane WORD`: in which lane the search waits for a reader.
     Lane,
+    /// `--under PREFIX`: only documents count whose names begin with one of the prefixes.
+    Under,
+    /// `--not-under PREFIX`: only documents count whose names begin with none of the prefixes.
+    NotUnder,
 }
 
 /// All options.
-const ALL: [OptionName; 17] = [
+const ALL: [OptionName; 19] = [
     OptionName::IgnoreCase,
     OptionName::Literal,
     OptionName::WholeWords,
@@ -61,6 +65,8 @@ const ALL: [OptionName; 17] = [
     OptionName::Spans,
     OptionName::Zero,
     OptionName::Lane,
+    OptionName::Under,
+    OptionName::NotUnder,
 ];
 
 /// What follows the word of an option.
@@ -108,11 +114,14 @@ impl OptionName {
             OptionName::Spans => "--spans",
             OptionName::Zero => "-Z",
             OptionName::Lane => "--lane",
+            OptionName::Under => "--under",
+            OptionName::NotUnder => "--not-under",
         }
     }
 
-    /// What follows the word of the option: a word after `-n` and `-N`, one of 1 to 64 bytes after `--lane`, a number from
-    /// 1 to 4,294,967,295 after `-m`, a number from 0 to 1,000 after `-C`, and nothing after any other.
+    /// What follows the word of the option: a word after `-n` and `-N`, one of 1 to 64 bytes after `--lane`, one of 1 byte or
+    /// more after `--under` and `--not-under`, a number from 1 to 4,294,967,295 after `-m`, a number from 0 to 1,000 after
+    /// `-C`, and nothing after any other.
     pub fn takes(self) -> Takes
         ensures { result ≡ takes self }
     {
@@ -120,6 +129,8 @@ impl OptionName {
             OptionName::Named => Takes::Word,
             OptionName::NotNamed => Takes::Word,
             OptionName::Lane => Takes::ShortWord(64),
+            OptionName::Under => Takes::ShortWord(u32::MAX),
+            OptionName::NotUnder => Takes::ShortWord(u32::MAX),
             OptionName::Limit => Takes::Number(1, u32::MAX),
             OptionName::Context => Takes::Number(0, 1000),
             _ => Takes::Nothing,
@@ -133,14 +144,28 @@ impl OptionName {
         self.text().as_bytes() == other.text().as_bytes()
     }
 
-    /// Whether the option can be there more than once: `-n` or `-N`.
+    /// Whether the option can be there more than once: `-n`, `-N`, `--under` or `--not-under`.
     pub fn is_repeatable(self) -> bool
         ensures { result ≡ is_repeatable self }
     {
         match self {
             OptionName::Named => true,
             OptionName::NotNamed => true,
+            OptionName::Under => true,
+            OptionName::NotUnder => true,
             _ => false,
+        }
+    }
+
+    /// How often an option that can be there more than once can be there: 4,096 times for `--under` and `--not-under`, and
+    /// 16 times for `-n` and `-N`.
+    pub fn most_times(self) -> usize
+        ensures { result ≡ greatest_times self }
+    {
+        match self {
+            OptionName::Under => 4096,
+            OptionName::NotUnder => 4096,
+            _ => 16,
         }
     }
 

@@ -2,7 +2,7 @@
 
 ghost use Rattle.std.specs.Prelude.{◌≡◌, IfErr, IfOk, map, option_map, slice_get, unwrap_or};
 ghost use Rattle.std.specs.List.{filter_map};
-ghost use Rattle.request.specs.Find.{case_if, has_option, lane_in, limit_in, options_of, test_in, view_in};
+ghost use Rattle.request.specs.Find.{case_if, has_option, lane_in, limit_in, options_of, prefix_in, test_in, view_in};
 ghost use Rattle.request.specs.Private.Kept.{shown_argument, shown_settings};
 ghost use Rattle.request.specs.Shown.{shown_options, shown_test};
 
@@ -56,6 +56,10 @@ pub struct FindOptions<'t> {
     pub invert: bool,
     /// The tests of names, in the order of the settings. A name must pass all of them.
     pub names: Vec<NameTest<'t>>,
+    /// The texts with one of which a name must begin, if there are any, in the order of the settings.
+    pub under: Vec<&'t [u8]>,
+    /// The texts with none of which a name may begin, in the order of the settings.
+    pub not_under: Vec<&'t [u8]>,
     /// Whether case counts in the patterns of names.
     pub name_case: Case,
     /// How many lines, or names, are shown at most, from 1. `None` if all are.
@@ -70,7 +74,7 @@ pub struct FindOptions<'t> {
 
 /// The options that these settings say.
 ///
-/// An `Err` is `OutOfMemory`: there is no memory for the tests of names.
+/// An `Err` is `OutOfMemory`: there is no memory for the tests of names or for the prefixes.
 pub fn options_of<'t>(
     alloc: Global,
     settings: &[Setting<'t>],
@@ -79,6 +83,8 @@ pub fn options_of<'t>(
     ensures err { IfErr result (λ fault. fault ≡ FindFault.OutOfMemory) }
 {
     let names = tests_of(alloc, settings)?;
+    let under = prefixes_of(alloc, OptionName::Under, settings)?;
+    let not_under = prefixes_of(alloc, OptionName::NotUnder, settings)?;
     Ok(FindOptions {
         case: case_if(has_option(settings, OptionName::IgnoreCase)),
         literal: has_option(settings, OptionName::Literal),
@@ -86,6 +92,8 @@ pub fn options_of<'t>(
         whole_lines: has_option(settings, OptionName::WholeLines),
         invert: has_option(settings, OptionName::Invert),
         names,
+        under,
+        not_under,
         name_case: case_if(has_option(settings, OptionName::IgnoreNameCase)),
         limit: limit_of(settings),
         view: view_of(settings),
@@ -107,6 +115,35 @@ fn tests_of<'t>(alloc: Global, settings: &[Setting<'t>]) -> Result<Vec<NameTest<
         }
     }
     Ok(tests)
+}
+
+/// The prefixes that this option gives, in the order of the settings.
+fn prefixes_of<'t>(
+    alloc: Global,
+    of: OptionName,
+    settings: &[Setting<'t>],
+) -> Result<Vec<&'t [u8]>, FindFault<'t>>
+    ensures ok { IfOk result (λ prefixes. map (λ prefix. prefix.now) prefixes.items
+        ≡ filter_map (λ setting. prefix_in of setting.name setting.argument) (shown_settings settings.now)) }
+    ensures err { IfErr result (λ fault. fault ≡ FindFault.OutOfMemory) }
+{
+    let mut prefixes = Vec::new(alloc);
+    for setting in settings {
+        if let Some(prefix) = prefix_in(of, setting) {
+            prefixes.push(prefix)?;
+        }
+    }
+    Ok(prefixes)
+}
+
+/// The prefix in a setting of this option.
+fn prefix_in<'t>(of: OptionName, setting: &Setting<'t>) -> Option<&'t [u8]>
+    ensures { option_map (λ word. word.now) result ≡ prefix_in of setting.now.name (shown_argument setting.now.argument) }
+{
+    match setting.argument {
+        Argument::Text(prefix) if of.is(setting.name) => Some(prefix),
+        _ => None,
+    }
 }
 
 /// Whether a setting is of this option.

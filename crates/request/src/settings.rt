@@ -3,13 +3,14 @@
 ghost use Rattle.std.specs.Prelude.{◌≡◌, ◌≢◌, ◌≤◌, ◌<◌, ℕ, IfErr, IfOk, List, MatchBool, MatchOption, codes, length};
 ghost use Rattle.request.specs.Faults.{IsFaultAt, IsFree, IsNamed};
 ghost use Rattle.request.specs.Names.{takes};
-ghost use Rattle.request.specs.Private.Kept.{shown_argument, shown_setting, shown_settings};
+ghost use Rattle.request.specs.Private.Kept.{IsTally, shown_argument, shown_setting, shown_settings};
 ghost use Rattle.request.specs.Settings.{Setting as Spelled, SpellsArgument, SpellsSetting};
 ghost use Rattle.request.specs.Words.{after_word, first_word};
 
 use crate::fault::FindFault;
 use crate::names::{OptionName, Takes, option_named};
 use crate::words::{cut_word, number_in};
+use std::alloc::Global;
 
 /// What follows an option.
 #[derive(Clone, Copy, Debug)]
@@ -31,8 +32,62 @@ pub struct Setting<'t> {
     pub argument: Argument<'t>,
 }
 
-/// How often an option that can be repeated can be there.
-const MAX_TIMES: usize = 16;
+/// The settings that were taken so far. There can be thousands of prefixes, which exclude no option, so they are only counted
+/// where the next setting is looked at.
+#[derive(Debug, Drop)]
+pub struct Earlier<'t> {
+    /// All of them, in their order.
+    pub settings: Vec<Setting<'t>>,
+    // those of other options than `--under` and `--not-under`, in their order
+    others: Vec<Setting<'t>>,
+    under: usize,
+    not_under: usize,
+}
+
+impl<'t> Earlier<'t> {
+    ghost use Rattle.std.specs.Prelude.{◌≡◌, ◌∷◌, ◌++◌, [], OnOk, IfErr};
+    ghost use Rattle.request.specs.Private.Kept.{IsTally, prefix_times};
+
+    /// No settings.
+    pub fn none(alloc: Global) -> Earlier<'t>
+        ensures none { result.settings.items ≡ [] }
+        ensures tally { IsTally result }
+    {
+        Earlier {
+            settings: Vec::new(alloc),
+            others: Vec::new(alloc),
+            under: 0,
+            not_under: 0,
+        }
+    }
+
+    /// Adds a setting. An `Err` is `OutOfMemory`.
+    pub fn push(&mut self, setting: Setting<'t>) -> Result<(), FindFault<'t>>
+        requires { IsTally self.old }
+        ensures settings { OnOk result (self.new.settings.items ≡ self.old.settings.items ++ setting.entry ∷ []) }
+        ensures tally { OnOk result (IsTally self.new) }
+        ensures err { IfErr result (λ fault. fault ≡ FindFault.OutOfMemory) }
+    {
+        self.settings.push(setting)?;
+        match setting.name {
+            OptionName::Under => self.under += 1,
+            OptionName::NotUnder => self.not_under += 1,
+            _ => self.others.push(setting)?,
+        }
+        Ok(())
+    }
+
+    /// How many of them are of this option, if it is `--under` or `--not-under`, and 0 if not.
+    fn prefix_times(&self, name: OptionName) -> usize
+        ensures { result ≡ prefix_times self.now.under self.now.not_under name }
+    {
+        match name {
+            OptionName::Under => self.under,
+            OptionName::NotUnder => self.not_under,
+            _ => 0,
+        }
+    }
+}
 
 /// A setting, and the text after it.
 #[derive(Clone, Copy, Debug)]
@@ -51,14 +106,15 @@ pub struct CutSetting<'t> {
 /// the earlier ones; or `NeedsNumber` if no number within its range follows it, and `NeedsWord` if no word within its
 /// length does. It is never `OutOfMemory`.
 pub fn take_setting<'t>(
-    earlier: &[Setting<'t>],
+    earlier: &Earlier<'t>,
     text: &'t [u8],
 ) -> Result<CutSetting<'t>, FindFault<'t>>
-    requires { first_word text.now ≢ codes "--" }
+    requires separator { first_word text.now ≢ codes "--" }
+    requires tally { IsTally earlier.now }
     ensures ok { IfOk result (λ taken. SpellsSetting text.now taken.rest.now (shown_setting taken.setting)) }
-    ensures free { IfOk result (λ taken. IsFree taken.setting.name (shown_settings earlier.now)) }
+    ensures free { IfOk result (λ taken. IsFree taken.setting.name (shown_settings earlier.now.settings.items)) }
     ensures shorter { IfOk result (λ taken. length taken.rest.now < length text.now) }
-    ensures err { IfErr result (IsFaultAt (shown_settings earlier.now) text.now) }
+    ensures err { IfErr result (IsFaultAt (shown_settings earlier.now.settings.items) text.now) }
 {
     if text.is_empty() {
         return Err(FindFault::NoSeparator);
@@ -81,12 +137,13 @@ pub fn take_setting<'t>(
 }
 
 /// Why the option cannot follow these settings.
-fn fault_after<'t>(earlier: &[Setting<'t>], name: OptionName) -> Option<FindFault<'t>>
-    ensures { MatchOption result (IsFree name (shown_settings earlier.now))
-        (λ fault. (text : List ℕ) → IsNamed text name → IsFaultAt (shown_settings earlier.now) text fault) }
+fn fault_after<'t>(earlier: &Earlier<'t>, name: OptionName) -> Option<FindFault<'t>>
+    requires { IsTally earlier.now }
+    ensures { MatchOption result (IsFree name (shown_settings earlier.now.settings.items))
+        (λ fault. (text : List ℕ) → IsNamed text name → IsFaultAt (shown_settings earlier.now.settings.items) text fault) }
 {
     let mut times = 0;
-    for setting in earlier {
+    for setting in &earlier.others {
         if setting.name.is(name) {
             if !name.is_repeatable() {
                 return Some(FindFault::Twice(name));
@@ -96,7 +153,7 @@ fn fault_after<'t>(earlier: &[Setting<'t>], name: OptionName) -> Option<FindFaul
             return Some(FindFault::Exclude(setting.name, name));
         }
     }
-    if times >= MAX_TIMES {
+    if times + earlier.prefix_times(name) >= name.most_times() {
         return Some(FindFault::TooOften(name));
     }
     None

@@ -23,7 +23,7 @@ use Rattle.views.specs.Found.{Hit}
 use Rattle.search.specs.Scan.{IsScanOf, candidates_of}
 use Rattle.prepare.specs.Queries.{can_have}
 use Rattle.search.specs.Private.Documents.{lines_of_taken}
-use Rattle.search.specs.Selects.{Selects, IsAsked, IsNamedForAll}
+use Rattle.search.specs.Selects.{Selects, IsAsked, IsAdmitted}
 use Rattle.prepare.specs.Tests.{test_of}
 use Rattle.views.specs.Text.{text_of_rows}
 use Rattle.search.specs.Shown.{IsShownOf}
@@ -101,7 +101,7 @@ final-rows request view.Header all hits rows are = are
 
 module _ (state : State) (prepared : Prepared) (taken kept : List SharedDocument) (wanted : Wanted) (joined : Joined)
     (order : AreFronted state (pattern_of prepared) (documents_shared taken))
-    (pairs : AllPairs (λ d e. d.name ≢ e.name) state.documents) (named : Selects (IsNamedForAll (pattern_of prepared).names) taken kept)
+    (pairs : AllPairs (λ d e. d.name ≢ e.name) state.documents) (named : Selects (IsAdmitted (pattern_of prepared)) taken kept)
     (is_prepared : wanted.prepared.now ≡ prepared) (is_limit : wanted.limit ≡ prepared.limit) (is_view : wanted.view ≡ prepared.view)
     (joins : HaveOwnNames kept → Joins wanted wanted.limit kept joined) where
   are : AreWanted state (pattern_of prepared) (documents_shared kept)
@@ -165,7 +165,7 @@ module _ (state : State) (prepared : Prepared) (taken kept : List SharedDocument
 -- the hits, where lines alone are gathered, with no limit
 pub hits-are : (state : State) (prepared : Prepared) (taken kept shown : List SharedDocument) (wanted : Wanted) (gathered : Gathered)
     → AreFronted state (pattern_of prepared) (documents_shared taken)
-    → Selects (IsNamedForAll (pattern_of prepared).names) taken kept → shown ≡ kept → wanted.prepared.now ≡ prepared → wanted.view ≡ view.Lines
+    → Selects (IsAdmitted (pattern_of prepared)) taken kept → shown ≡ kept → wanted.prepared.now ≡ prepared → wanted.view ≡ view.Lines
     → wanted.limit ≡ None → (HaveOwnNames shown → Gathers wanted shown gathered) → IsScanOf state (pattern_of prepared) gathered.hits
 hits-are state prepared taken kept shown wanted gathered order named same is_prepared lines none gathers =
     let own = own-rises kept (wanted_are state (pattern_of prepared) taken kept order named).rises in

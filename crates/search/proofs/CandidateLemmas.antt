@@ -1,20 +1,24 @@
 -- The candidates of a pattern, and those of them that are wanted.
-use Rattle.std.proofs.Common.{◌≡◌, ℕ, ◌≤◌, ◌&&◌, Bool, true, false, cond, List, [], ◌∷◌, map, length, refl, sym, ◌∙◌, ap, subst, arith}
-use Rattle.std.specs.Prelude.{bytes_eq, filter, All}
+use Rattle.std.proofs.Common.{◌≡◌, ℕ, ◌≤◌, ◌==◌, ◌&&◌, ◌||◌, not, Bool, true, false, cond, List, [], ◌∷◌, map, length, refl, sym, ◌∙◌, ap, subst, arith}
+use Rattle.std.specs.Prelude.{bytes_eq, filter}
 use Rattle.std.proofs.lemmas.List.{length-map}
 use Rattle.std.proofs.lemmas.List.Elements.{filter_agree}
 use Rattle.query.specs.Trigrams.{TrigramSet, trigrams_of_body}
 use Rattle.query.specs.Query.{Formula, is_met}
 use Rattle.posting.specs.ListValue.{has}
 use Rattle.index.specs.declared.document.SharedDocument.{SharedDocument}
-use Rattle.index.specs.Documents.{Document, meets, IsInNameOrder, is_chosen, is_under}
+use Rattle.index.specs.Documents.{Document, meets, IsInNameOrder, is_chosen, is_under_any}
 use Rattle.index.specs.Shared.{document_of, documents_shared}
 use Rattle.index.specs.State.{State}
-use Rattle.search.specs.Front.{AreFronted}
-use Rattle.prepare.specs.Pattern.{Test, Passes, Pattern}
+use Rattle.search.specs.Front.{AreFronted, AreFronts}
+use Rattle.prefixes.specs.Under.{begins_with, is_under_one}
+use Rattle.prepare.specs.Front.{IsFrontOf}
+use Rattle.prepare.specs.Prepared.{pattern_of}
+use Rattle.prepare.specs.declared.pattern.Prepared.{Prepared}
+use Rattle.prepare.specs.Pattern.{Admits, Test, Pattern}
 use Rattle.prepare.specs.Queries.{can_have}
 use Rattle.search.specs.Scan.{candidates_of}
-use Rattle.search.specs.Selects.{Selects, IsNamedForAll}
+use Rattle.search.specs.Selects.{Selects, IsAdmitted}
 use Rattle.index.proofs.DocumentLemmas.{bytes_eq-refl, filter-Contains, Contains-filter}
 use Rattle.index.proofs.StoredLemmas.{Numbered}
 use Rattle.index.proofs.OrderLemmas.{chosen_are}
@@ -39,37 +43,37 @@ filter_both p q (d ∷ ds) = go (p d) (filter_both p q ds)
     go true rest = ap (λ kept. cond (q d) (d ∷ kept) kept) rest
     go false rest = rest
 
--- the documents under a text that have the numbers of the candidates are the candidates under it
+-- the documents under some texts that have the numbers of the candidates are the candidates under it
 pub candidates_in_order : (s : State) (pattern : Pattern) (formula : Formula) → Numbered s.documents → IsMetAs pattern.line formula
-    → (members : List ℕ) → members ≡ map (λ d. d.number) (filter (meets formula) s.documents) → (front : List ℕ) (ordered : List Document)
-    → IsInNameOrder (filter (is_chosen members front) s.documents) ordered
-    → IsInNameOrder (filter (is_under front) (candidates_of s pattern.line)) ordered
-candidates_in_order s pattern formula rise same members are front ordered order =
+    → (members : List ℕ) → members ≡ map (λ d. d.number) (filter (meets formula) s.documents) → (fronts : List (List ℕ)) (ordered : List Document)
+    → IsInNameOrder (filter (is_chosen members fronts) s.documents) ordered
+    → IsInNameOrder (filter (is_under_any fronts) (candidates_of s pattern.line)) ordered
+candidates_in_order s pattern formula rise same members are fronts ordered order =
     subst (λ ds. IsInNameOrder ds ordered)
-    (sym (filter_both (λ d. has members d.number) (is_under front) s.documents)
-    ∙ ap (filter (is_under front))
+    (sym (filter_both (λ d. has members d.number) (is_under_any fronts) s.documents)
+    ∙ ap (filter (is_under_any fronts))
     (ap (λ ns. filter (λ d. has ns d.number) s.documents) are
     ∙ (chosen_are s.documents rise (meets formula) ∙ candidates_are s pattern.line formula same))) order
 
 -- The wanted documents are the candidates whose names match, in the order of their names.
 pub wanted_are : (s : State) (pattern : Pattern) (taken kept : List SharedDocument)
-    → AreFronted s pattern (documents_shared taken) → Selects (IsNamedForAll pattern.names) taken kept
+    → AreFronted s pattern (documents_shared taken) → Selects (IsAdmitted pattern) taken kept
     → AreWanted s pattern (documents_shared kept)
 wanted_are s pattern taken kept fronted named =
     let order = fronted.in_order in
     let candidates = candidates_of s pattern.line in
-    let selected : Selects (λ d. All (λ test. Passes test d.name) pattern.names) (documents_shared taken) (documents_shared kept) =
-    Selects-map document_of (λ d. All (λ test. Passes test d.name) pattern.names) named in
+    let selected : Selects (λ d. Admits pattern d.name) (documents_shared taken) (documents_shared kept) =
+    Selects-map document_of (λ d. Admits pattern d.name) named in
     record {
       rises = rises-Selects selected order.rises;
       exact = λ d. (
         λ h. (
             let at = Contains-kept d selected h in
-            record { candidate = (filter-Contains (is_under fronted.front) candidates d ((order.same d).0 at.0)).0; name_hits = at.1 }
+            record { candidate = (filter-Contains (is_under_any fronted.fronts) candidates d ((order.same d).0 at.0)).0; admitted = at.1 }
             ),
         λ w. kept-Contains d selected
-            ((order.same d).1 (Contains-filter (is_under fronted.front) candidates d w.candidate
-            (ap (bytes_eq fronted.front) (fronted.named d.name w.name_hits) ∙ bytes_eq-refl fronted.front))) w.name_hits,
+            ((order.same d).1 (Contains-filter (is_under_any fronted.fronts) candidates d w.candidate
+            (fronted.named d.name w.admitted))) w.admitted,
       );
     }
 
@@ -90,3 +94,25 @@ pub fewer : (s : State) (formula : Formula) (members : List ℕ) → members ≡
     → length members ≤ length s.documents
 fewer s formula members are =
     omega (arith, ap length are, length-map (filter (meets formula) s.documents) (λ d. d.number), length-filter (meets formula) s.documents)
+
+-- ---- what names begin with
+
+-- a text with which each name begins that passes the tests
+pub front_is : (pattern : Pattern) (front : List ℕ) (fronts : List (List ℕ)) → fronts ≡ front ∷ [] → IsFrontOf pattern.names front → AreFronts pattern fronts
+front_is pattern front fronts are begins = λ name admitted.
+    ap (λ texts. is_under_one texts name) are
+    ∙ (or_none (begins_with front name) ∙ (ap (bytes_eq front) (begins name admitted.passes) ∙ bytes_eq-refl front))
+  where
+    or_none : (t : Bool) → (t || false) ≡ t
+    or_none true = refl
+    or_none false = refl
+
+-- the prefixes that are asked for, if there are any
+pub prefixes_are : (prepared : Prepared) → (length prepared.under == 0) ≡ false → AreFronts (pattern_of prepared) prepared.under
+prefixes_are prepared some = λ name admitted.
+    go (is_under_one prepared.under name) (is_under_one prepared.not_under name)
+    (sym (ap (λ t. (t || is_under_one prepared.under name) && not (is_under_one prepared.not_under name)) some) ∙ admitted.within)
+  where
+    go : (s t : Bool) → (s && not t) ≡ true → s ≡ true
+    go true t e = refl
+    go false t e = e

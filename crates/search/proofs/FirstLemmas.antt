@@ -1,17 +1,18 @@
 -- From what is shown of the first candidates to what is shown of all of them.
-use Rattle.std.proofs.Common.{◌≡◌, ◌≢◌, ℕ, suc, ◌⊎◌, inl, inr, true, List, [], ◌∷◌, ◌++◌, map, length, Contains, refl, sym, ◌∙◌, ap, subst, arith}
+use Rattle.std.proofs.Common.{◌≡◌, ℕ, suc, ◌⊎◌, inl, inr, Bool, true, false, List, [], ◌∷◌, ◌++◌, map, length, Contains, refl, sym, ◌∙◌, ap, subst, arith}
 use Rattle.std.specs.Prelude.{All}
 use Rattle.std.specs.List.{AllByRecursion}
+use Rattle.std.proofs.lemmas.Bool.{true≢false}
 use Rattle.std.proofs.lemmas.List.{map-append}
 use Rattle.std.proofs.lemmas.List.Elements.{All-cons}
 use Rattle.engine.proofs.LineLemmas.{NoFeed}
-use Rattle.index.specs.Documents.{Document, is_under}
+use Rattle.index.specs.Documents.{Document, is_under_any}
 use Rattle.index.specs.Shared.{document_of, documents_shared}
 use Rattle.index.specs.State.{State, IsState}
-use Rattle.index.specs.Text.{IsName, is_name_byte}
+use Rattle.index.specs.Text.{IsName}
 use Rattle.index.specs.declared.document.SharedDocument.{SharedDocument}
 use Rattle.index.proofs.DocumentLemmas.{Contains-head, Contains-tail, filter-Contains}
-use Rattle.prepare.specs.Pattern.{Pattern, Test, Passes}
+use Rattle.prepare.specs.Pattern.{Admits, Pattern, Test, Passes}
 use Rattle.prepare.specs.Prepared.{pattern_of, request_of}
 use Rattle.prepare.specs.Queries.{can_have}
 use Rattle.prepare.specs.declared.pattern.Prepared.{Prepared}
@@ -19,7 +20,7 @@ use Rattle.query.specs.Trigrams.{trigrams_of_body}
 use Rattle.search.specs.Front.{AreFronted}
 use Rattle.search.specs.Private.Gathered.{HaveOwnNames, Joins, shown_with}
 use Rattle.search.specs.Scan.{candidates_of}
-use Rattle.search.specs.Selects.{Selects, done, keep, skip, IsNamedForAll}
+use Rattle.search.specs.Selects.{Selects, done, keep, skip, IsAdmitted}
 use Rattle.search.specs.Shown.{IsShownOf}
 use Rattle.search.specs.declared.gathered.Wanted.{Wanted}
 use Rattle.search.specs.declared.side_by_side.Joined.{Joined}
@@ -58,14 +59,24 @@ all_or_not (test ∷ tests) name none = go (passes_or_not test name none) (all_o
     go (inl passes) (inr fails) = inr (λ all. fails (λ k d inside. all (suc k) d (omega arith)))
     go (inr fails) rest = inr (λ all. fails (all 0 test (omega arith)))
 
-named-selection : (tests : List Test) (documents : List SharedDocument) → AllByRecursion (λ d. IsName d.name) documents
-    → (kept : List SharedDocument) × Selects (IsNamedForAll tests) documents kept
-named-selection tests [] names = ([], done)
-named-selection tests (d ∷ documents) names = go (all_or_not tests d.name (feedless d.name names.0)) (named-selection tests documents names.1)
+-- and whether they are asked for by what they begin with
+admitted_or_not : (pattern : Pattern) (name : List ℕ) → NoFeed name → Admits pattern name ⊎ (Admits pattern name → ⊥)
+admitted_or_not pattern name none = go (all_or_not pattern.names name none) (pattern.within name) refl
   where
-    go : All (λ test. Passes test d.name) tests ⊎ (All (λ test. Passes test d.name) tests → ⊥)
-        → ((kept : List SharedDocument) × Selects (IsNamedForAll tests) documents kept)
-        → (kept : List SharedDocument) × Selects (IsNamedForAll tests) (d ∷ documents) kept
+    go : All (λ test. Passes test name) pattern.names ⊎ (All (λ test. Passes test name) pattern.names → ⊥) → (t : Bool) → pattern.within name ≡ t
+        → Admits pattern name ⊎ (Admits pattern name → ⊥)
+    go (inl passes) true is = inl (record { passes = passes; within = is })
+    go (inl passes) false is = inr (λ all. true≢false (sym all.within ∙ is))
+    go (inr fails) t is = inr (λ all. fails all.passes)
+
+named-selection : (pattern : Pattern) (documents : List SharedDocument) → AllByRecursion (λ d. IsName d.name) documents
+    → (kept : List SharedDocument) × Selects (IsAdmitted pattern) documents kept
+named-selection pattern [] names = ([], done)
+named-selection pattern (d ∷ documents) names =
+    go (admitted_or_not pattern d.name (feedless d.name names.0)) (named-selection pattern documents names.1)
+  where
+    go : Admits pattern d.name ⊎ (Admits pattern d.name → ⊥) → ((kept : List SharedDocument) × Selects (IsAdmitted pattern) documents kept)
+        → (kept : List SharedDocument) × Selects (IsAdmitted pattern) (d ∷ documents) kept
     go (inl passes) rest = (d ∷ rest.0, keep passes rest.1)
     go (inr fails) rest = (rest.0, skip fails rest.1)
 
@@ -82,7 +93,7 @@ names-are : (state : State) (pattern : Pattern) (documents : List SharedDocument
     → AllByRecursion (λ d. IsName d.name) documents
 names-are state pattern documents is order =
     each-name documents (λ d there.
-    (let candidate = (filter-Contains (is_under order.front) (candidates_of state pattern.line) d ((order.in_order.same d).0 there)).0 in
+    (let candidate = (filter-Contains (is_under_any order.fronts) (candidates_of state pattern.line) d ((order.in_order.same d).0 there)).0 in
     let at = (filter-Contains (λ x. can_have pattern.line (trigrams_of_body x.body)) state.documents d candidate).0 in
     subst (λ (x : Document). IsName x.name) at.2 (is.good at.0 d at.1).2))
 
@@ -91,7 +102,7 @@ names-are state pattern documents is order =
 -- Where there are more lines, or names, in the first candidates than are shown, the others change nothing.
 pub part-shown : (state : State) (prepared : Prepared) (taken others kept : List SharedDocument) (wanted : Wanted) (joined : Joined)
     → IsState state → AreFronted state (pattern_of prepared) (documents_shared (taken ++ others))
-    → Selects (IsNamedForAll (pattern_of prepared).names) taken kept → wanted.prepared.now ≡ prepared → wanted.limit ≡ prepared.limit
+    → Selects (IsAdmitted (pattern_of prepared)) taken kept → wanted.prepared.now ≡ prepared → wanted.limit ≡ prepared.limit
     → wanted.view ≡ prepared.view → (HaveOwnNames kept → Joins wanted wanted.limit kept joined) → joined.more ≡ true
     → (version documents candidates : ℕ) → version ≡ state.version → documents ≡ length state.documents
     → candidates ≡ length (candidates_of state (pattern_of prepared).line)
@@ -99,7 +110,7 @@ pub part-shown : (state : State) (prepared : Prepared) (taken others kept : List
 part-shown state prepared taken others kept wanted joined is order named is_prepared is_limit is_view joins more version documents candidates is_version
     are_documents are_candidates =
     let names = All-right (λ d. IsName d.name) taken others (names-are state (pattern_of prepared) (taken ++ others) is order) in
-    let rest = named-selection (pattern_of prepared).names others names in
+    let rest = named-selection (pattern_of prepared) others names in
     shown-is state prepared (taken ++ others) (kept ++ rest.0) wanted joined order is.names (Selects-append named rest.1) is_prepared is_limit is_view
     (λ own. joins-over wanted wanted.limit kept rest.0 joined own more (joins (own-left kept rest.0 own))) version documents candidates is_version
     are_documents are_candidates

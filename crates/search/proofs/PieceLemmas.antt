@@ -1,5 +1,5 @@
 -- From one piece of a body to the next.
-use Rattle.std.proofs.Common.{◌≡◌, ℕ, zero, suc, ◌+◌, ◌-◌, ◌<◌, ◌≤◌, inl, inr, slice_index, List, [], ◌∷◌, ◌++◌, length, take, drop, refl, sym, ◌∙◌, ap, arith, add-one}
+use Rattle.std.proofs.Common.{◌≡◌, ℕ, suc, ◌+◌, ◌-◌, ◌<◌, ◌≤◌, inl, inr, slice_index, List, [], ◌∷◌, ◌++◌, length, take, drop, sym, ◌∙◌, ap, arith, add-one}
 use Rattle.std.proofs.lemmas.Bool.{cases_lt}
 use Rattle.std.proofs.lemmas.List.{length-take, length-drop, take_all, take-append-drop, get_or-drop}
 use Rattle.std.proofs.Math.Seq.{take-suc}

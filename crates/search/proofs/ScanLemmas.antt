@@ -1,7 +1,7 @@
 -- The lines of documents, and the scan of all of them.
 use Rattle.std.proofs.Common.{◌≡◌, ℕ, zero, suc, ◌+◌, ◌-◌, ◌<◌, ◌⊎◌, inl, inr, List, [], ◌∷◌, ◌++◌, map}
 use Rattle.std.proofs.Common.{Some, Contains, refl, sym, ◌∙◌, ap, subst, arith}
-use Rattle.std.specs.Prelude.{◌↔◌, slice_get, flat_map, All, Bool, true, false}
+use Rattle.std.specs.Prelude.{◌↔◌, slice_get, flat_map, Bool, true, false}
 use Rattle.std.specs.Ordering.{nat_cmp}
 use Rattle.std.specs.Cmp.Lexicographic.{slice_cmp, nat_list_cmp_total}
 use Rattle.std.proofs.lemmas.Cmp.{tied_itself}
@@ -17,7 +17,7 @@ use Rattle.index.specs.Documents.{Document, RisesByName}
 use Rattle.index.specs.State.{State}
 use Rattle.index.proofs.DocumentLemmas.{Contains-cons, Contains-head, Contains-tail}
 use Rattle.ere.specs.Tree.{Tree}
-use Rattle.prepare.specs.Pattern.{Passes, Pattern}
+use Rattle.prepare.specs.Pattern.{Admits, Passes, Pattern}
 use Rattle.views.specs.Found.{Hit}
 use Rattle.search.specs.Scan.{IsHit, hit_cmp, IsScanOf, candidates_of}
 use Rattle.prepare.specs.Queries.{can_have}
@@ -187,7 +187,7 @@ all_lines-sorted (d ∷ documents) rises =
 -- the tests of names.
 pub record IsWanted (state : State) (pattern : Pattern) (d : Document) : Type 0 where
   pub candidate : Contains (candidates_of state pattern.line) d
-  pub name_hits : All (λ test. Passes test d.name) pattern.names
+  pub admitted : Admits pattern d.name
 
 -- those documents, each once, rising by name
 pub record AreWanted (state : State) (pattern : Pattern) (wanted : List Document) : Type 0 where
@@ -232,7 +232,7 @@ IsScanOf-wanted s pattern wanted hits are kept = record {
           counted = omega (arith, at.at);
           line = ap (λ n. slice_get (lines_of line.0.body) n) (sym place) ∙ at.text;
           hit = h.1;
-          name_hits = subst (λ name. All (λ test. Passes test name) pattern.names) (sym at.named) is.name_hits;
+          admitted = subst (Admits pattern) (sym at.named) is.admitted;
         }
 
     back : (f : Hit) → IsHit s pattern f → Contains hits f
@@ -243,6 +243,6 @@ IsScanOf-wanted s pattern wanted hits are kept = record {
         let named = subst (λ n. Contains (lines_of_document h.document.name h.document.body) (found n f.line f.text)) (sym h.named) moved in
         let is : IsWanted s pattern h.document = record {
           candidate = candidate s pattern h.document (f.line - 1) f.text h.there h.line h.hit;
-          name_hits = subst (λ name. All (λ test. Passes test name) pattern.names) h.named h.name_hits;
+          admitted = subst (Admits pattern) h.named h.admitted;
         } in
         kept-Contains f kept (Contains-all_lines wanted h.document f ((are.exact h.document).1 is) named) h.hit

@@ -4,8 +4,9 @@ use Rattle.std.specs.Prelude.{◌↔◌, IsTrue, All}
 use Rattle.std.proofs.lemmas.List.Elements.{All-nil, All-push, All-pop}
 use Rattle.ere.specs.Language.{ContainsMatch}
 use Rattle.index.specs.declared.document.SharedDocument.{SharedDocument}
-use Rattle.prepare.specs.Pattern.{Test, Passes, with_match}
-use Rattle.search.specs.Selects.{Selects, done, keep, skip, IsNamed, IsNamedForAll}
+use Rattle.prepare.specs.Pattern.{Pattern, Test, Passes, with_match}
+use Rattle.search.specs.Selects.{Selects, done, keep, skip, IsAdmitted, IsNamed, IsNamedForAll}
+use Rattle.search.specs.Private.Ways.{IsBegun}
 use Rattle.prepare.specs.declared.asked.Test.{Test as PreparedTest}
 use Rattle.prepare.specs.Tests.{test_of}
 use Rattle.prepare.proofs.TestLemmas.{first_tests, next_tests}
@@ -63,3 +64,13 @@ named_by_none tests all = every all
     every : (all : List SharedDocument) → Selects (IsNamedForAll (first_tests tests 0)) all all
     every [] = done
     every (document ∷ all) = keep (All-nil (λ t. IsNamed t document)) (every all)
+
+-- what is kept of the documents for what their names begin with, and then for the tests
+pub admitted_by_both : (pattern : Pattern) (all middle kept : List SharedDocument) → Selects (IsBegun pattern) all middle
+    → Selects (IsNamedForAll pattern.names) middle kept → Selects (IsAdmitted pattern) all kept
+admitted_by_both pattern all middle kept begun named =
+    Selects-same (λ document. (λ h. record { passes = h.1; within = h.0 }, λ h. (h.within, h.passes))) (Selects-both begun named)
+
+pub begun_by_none : (pattern : Pattern) → ((name : List ℕ) → pattern.within name ≡ true) → (all : List SharedDocument) → Selects (IsBegun pattern) all all
+begun_by_none pattern every [] = done
+begun_by_none pattern every (document ∷ all) = keep (every document.name) (begun_by_none pattern every all)

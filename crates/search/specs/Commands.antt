@@ -1,9 +1,9 @@
 -- What a pattern asks for in the documents that commands leave.
-use Rattle.std.specs.Prelude.{◌≡◌, ℕ, ◌-◌, ◌<◌, List, Some, slice_get, All}
+use Rattle.std.specs.Prelude.{◌≡◌, ℕ, ◌-◌, ◌<◌, List, Some, slice_get}
 use Rattle.lines.specs.Lines.{lines_of}
 use Rattle.index.specs.declared.command.Command.{Command}
 use Rattle.index.specs.Documents.{IsPutLast}
-use Rattle.prepare.specs.Pattern.{Passes, Pattern}
+use Rattle.prepare.specs.Pattern.{Admits, Passes, Pattern}
 use Rattle.views.specs.Found.{Hit}
 
 -- The pattern asks for this line of the last Put of its name, which no later command names.
@@ -13,4 +13,4 @@ pub record IsHitOfPut (commands : List Command) (pattern : Pattern) (found : Hit
   pub counted : 0 < found.line
   pub line : slice_get (lines_of body) (found.line - 1) ≡ Some found.text
   pub hit : Passes pattern.line found.text
-  pub name_hits : All (λ test. Passes test found.name) pattern.names
+  pub admitted : Admits pattern found.name

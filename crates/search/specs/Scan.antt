@@ -1,5 +1,5 @@
 -- The lines that a search finds, and when an answer is one of a state.
-use Rattle.std.specs.Prelude.{◌≡◌, ◌-◌, ◌<◌, List, length, Some, slice_get, filter, All, Contains, ◌↔◌}
+use Rattle.std.specs.Prelude.{◌≡◌, ◌-◌, ◌<◌, List, length, Some, slice_get, filter, Contains, ◌↔◌}
 use Rattle.std.specs.Ordering.{nat_cmp, then_cmp, on}
 use Rattle.std.specs.Cmp.Lexicographic.{slice_cmp}
 use Rattle.std.specs.List.Sorted.{IsStrictlySortedBy}
@@ -8,7 +8,7 @@ use Rattle.lines.specs.Lines.{lines_of}
 use Rattle.query.specs.Trigrams.{trigrams_of_body}
 use Rattle.index.specs.Documents.{Document}
 use Rattle.index.specs.State.{State}
-use Rattle.prepare.specs.Pattern.{Test, Passes, Pattern}
+use Rattle.prepare.specs.Pattern.{Admits, Test, Passes, Pattern}
 use Rattle.prepare.specs.Queries.{can_have}
 use Rattle.views.specs.Found.{Answer, Hit}
 
@@ -20,7 +20,7 @@ pub record IsHit (state : State) (pattern : Pattern) (found : Hit) : Type 0 wher
   pub counted : 0 < found.line
   pub line : slice_get (lines_of document.body) (found.line - 1) ≡ Some found.text
   pub hit : Passes pattern.line found.text
-  pub name_hits : All (λ test. Passes test found.name) pattern.names
+  pub admitted : Admits pattern found.name
 
 -- by the names' bytes, as unsigned numbers, and then by line
 abbrev pub hit_cmp : Hit → Hit → Ordering

@@ -1,7 +1,7 @@
 -- Those of the lines, and of the documents, that a search keeps.
 use Rattle.std.specs.Prelude.{List, [], ◌∷◌, All}
 use Rattle.index.specs.declared.document.SharedDocument.{SharedDocument}
-use Rattle.prepare.specs.Pattern.{Test, Passes}
+use Rattle.prepare.specs.Pattern.{Admits, Test, Passes, Pattern}
 use Rattle.views.specs.Found.{Hit}
 
 -- The second list has those members of the first that have the property, in the same order.
@@ -21,3 +21,7 @@ IsNamed test document = Passes test document.name
 -- It passes all of these tests.
 abbrev pub IsNamedForAll : List Test → SharedDocument → Type 0
 IsNamedForAll tests document = All (λ test. IsNamed test document) tests
+
+-- Documents of its name are searched.
+abbrev pub IsAdmitted : Pattern → SharedDocument → Type 0
+IsAdmitted pattern document = Admits pattern document.name

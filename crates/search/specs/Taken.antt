@@ -13,7 +13,7 @@ use Rattle.prepare.specs.Request.{Request}
 use Rattle.search.specs.Scan.{candidates_of}
 
 -- It was taken from an index in this state, for this request: the number of all candidates, and some or all of these documents, which
--- are the candidates whose names begin with a text with which every name begins that is asked for.
+-- are the candidates whose names begin with texts with one of which every name begins that is asked for.
 pub record IsTakenAmong (all : List SharedDocument) (state : State) (request : Request) (taken : Taken) : Type 0 where
   pub prepared : request_of taken.prepared.now ≡ request
   pub version : taken.version ≡ state.version

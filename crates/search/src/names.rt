@@ -1,4 +1,4 @@
-//! The documents whose names pass the tests of a search.
+//! The documents whose names a search asks for.
 
 ghost use Rattle.std.specs.Prelude.{IfOk, IfErr, map, take};
 ghost use Rattle.ere.specs.Tree.{form};
@@ -6,8 +6,8 @@ ghost use Rattle.ere.specs.Limits.{IsWithinLimits};
 ghost use Rattle.search.specs.CalledOff.{IsCalledOffOnlyIf};
 ghost use Rattle.prepare.specs.Prepared.{pattern_of};
 ghost use Rattle.prepare.specs.Tests.{test_of};
-ghost use Rattle.search.specs.Selects.{Selects, IsNamed, IsNamedForAll};
-ghost use Rattle.search.specs.Private.Ways.{Finds};
+ghost use Rattle.search.specs.Selects.{Selects, IsAdmitted, IsNamed};
+ghost use Rattle.search.specs.Private.Ways.{Finds, IsBegun};
 
 use crate::unanswered::Unanswered;
 use crate::watch::{Watch, ask};
@@ -17,8 +17,9 @@ use matcher::is_quick;
 use prepare::{Prepared, Test};
 use std::alloc::Global;
 
-/// Those of the documents whose names, each taken as a line, pass the tests of names, in the same order. Without such
-/// tests these are all documents. `watch` is asked whether the answer is wanted before each name that is matched.
+/// Those of the documents whose names are asked for by what they begin with and, each taken as a line, pass the tests of
+/// names, in the same order. Without prefixes and tests these are all documents. `watch` is asked whether the answer is wanted
+/// before each name that is tested.
 ///
 /// `CalledOff` is returned once `watch` says that the answer is not wanted, and `OutOfMemory` means that memory ran
 /// out.
@@ -28,12 +29,36 @@ pub(crate) fn named<W: Watch>(
     documents: Vec<SharedDocument>,
     watch: &mut W,
 ) -> Result<Vec<SharedDocument>, Unanswered>
-    ensures kept { IfOk result (λ kept. Selects (IsNamedForAll (pattern_of prepared.now).names) documents.items kept.items) }
+    ensures kept { IfOk result (λ kept. Selects (IsAdmitted (pattern_of prepared.now)) documents.items kept.items) }
     ensures called_off { IfErr result (IsCalledOffOnlyIf (W.has_said_no watch.new)) }
 {
-    let mut kept = documents;
+    let begun = within(alloc, prepared, documents, watch)?;
+    let mut kept = begun;
     for test in &prepared.names {
         kept = with_names(alloc, test, kept, watch)?;
+    }
+    Ok(kept)
+}
+
+/// Those of the documents whose names are asked for by what they begin with.
+fn within<W: Watch>(
+    alloc: Global,
+    prepared: &Prepared,
+    documents: Vec<SharedDocument>,
+    watch: &mut W,
+) -> Result<Vec<SharedDocument>, Unanswered>
+    ensures kept { IfOk result (λ kept. Selects (IsBegun (pattern_of prepared.now)) documents.items kept.items) }
+    ensures called_off { IfErr result (IsCalledOffOnlyIf (W.has_said_no watch.new)) }
+{
+    if !prepared.has_prefixes() {
+        return Ok(documents);
+    }
+    let mut kept = Vec::new(alloc);
+    for document in documents {
+        ask(watch)?;
+        if prepared.is_within(document.name.as_bytes()) {
+            kept.push(document)?;
+        }
     }
     Ok(kept)
 }

@@ -30,7 +30,8 @@ use views::{
 };
 
 /// Appends the rows of one document, of which these hits are shown, but where lines alone are shown, whose text is formed later;
-/// returns how many rows they are. `seeker` finds the matches within lines, if these are shown. `watch` is asked whether the answer is wanted before each pass over a line.
+/// returns how many rows they are. `seeker` finds the matches within lines, if these are shown. `watch` is asked whether the answer
+/// is wanted before each pass over a line.
 ///
 /// `CalledOff` is returned once `watch` says that the answer is not wanted, and `OutOfMemory` means that memory ran
 /// out. After an `Err`, `out` has any bytes.

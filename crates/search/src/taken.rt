@@ -1,10 +1,11 @@
 //! What a search takes out of an index, so that names and lines can be matched without the index.
 
-ghost use Rattle.std.specs.Prelude.{◌≡◌, IfOk, IfErr};
+ghost use Rattle.std.specs.Prelude.{◌≡◌, ◌==◌, IfOk, IfErr, IfNone, IfSome, IsFalse, length};
 ghost use Rattle.search.specs.declared.unanswered.Unanswered.TheVariants.{OutOfMemory};
 ghost use Rattle.search.specs.Private.Gathered.{shown_with};
-ghost use Rattle.prepare.specs.Prepared.{request_of};
-ghost use Rattle.search.specs.Private.Parts.{IsTakenUpTo};
+ghost use Rattle.prepare.specs.Prepared.{pattern_of, request_of};
+ghost use Rattle.search.specs.Front.{AreFronts};
+ghost use Rattle.search.specs.Private.Parts.{AreFirstFronted, IsTakenUpTo};
 ghost use Rattle.search.specs.Taken.{IsTakenOf};
 
 use crate::gathered::{Wanted, gather};
@@ -13,6 +14,8 @@ use crate::side_by_side::{Joined, gather_part, gather_side_by_side};
 use crate::unanswered::Unanswered;
 use crate::watch::{NoWatch, Watch};
 use index::{Index, SharedDocument};
+use posting::List;
+use prefixes::Prefixes;
 use prepare::{Prepared, front_of};
 use request::View;
 use std::alloc::{AllocError, Global};
@@ -34,13 +37,13 @@ pub struct Taken<'p> {
     pub(crate) documents: u32,
     /// The number of all candidates.
     pub(crate) count: u32,
-    /// The candidates, but for those that a text at the front of the names leaves out, in the order of their names.
+    /// The candidates, but for those that what names begin with leaves out, in the order of their names.
     pub(crate) candidates: Vec<SharedDocument>,
 }
 
 /// Takes out of the index what a search needs: the documents whose trigrams meet the condition of the pattern. If the
-/// names that are asked for begin with a text, as for the name pattern `^src/`, only the documents under it are taken,
-/// and the others cost nothing. No other name and no line is looked at.
+/// names that are asked for begin with a text, as for the name pattern `^src/`, or with one of some prefixes, only the
+/// documents under these are taken, and the others cost nothing. No other name and no line is looked at.
 ///
 /// An `Err` means that memory ran out, or that a name or a body has too many handles.
 pub fn take<'p>(
@@ -64,8 +67,7 @@ pub(crate) fn take_up_to<'p>(
     ensures { IfOk result (IsTakenUpTo most index.now (request_of prepared.now)) }
 {
     let numbers = index.candidates(alloc, &prepared.query)?;
-    let front = front_of(alloc, &prepared.names)?;
-    let candidates = index.chosen_documents_under(alloc, &numbers, &front, most)?;
+    let candidates = fronted(alloc, index, prepared, &numbers, most)?;
     Ok(Taken {
         prepared,
         version: index.version(),
@@ -73,6 +75,43 @@ pub(crate) fn take_up_to<'p>(
         count: numbers.len() as u32,
         candidates,
     })
+}
+
+/// Those of the documents with these numbers whose names begin as each name begins that is asked for, in the order of their
+/// names: all, or the first ones, if there are `most` or more.
+fn fronted(
+    alloc: Global,
+    index: &Index,
+    prepared: &Prepared,
+    numbers: &List,
+    most: usize,
+) -> Result<Vec<SharedDocument>, AllocError>
+    ensures { IfOk result (λ shared. AreFirstFronted most index.now (pattern_of prepared.now) numbers.now.members shared.items) }
+{
+    match front(alloc, prepared)? {
+        Some(front) => index.chosen_documents_under(alloc, numbers, &front, most),
+        None => index.chosen_documents_under(alloc, numbers, &prepared.under, most),
+    }
+}
+
+/// The text with which every name begins that passes the tests of names, unless the prefixes that are asked for say more.
+fn front(alloc: Global, prepared: &Prepared) -> Result<Option<Prefixes>, AllocError>
+    ensures some { IfOk result (λ found. IfSome found (AreFronts (pattern_of prepared.now))) }
+    ensures none { IfOk result (λ found. IfNone found (AreFronts (pattern_of prepared.now) prepared.now.under)) }
+{
+    let front = front_of(alloc, &prepared.names)?;
+    if !says_more(prepared, &front) {
+        return Ok(None);
+    }
+    let one = Prefixes::one(alloc, front)?;
+    Ok(Some(one))
+}
+
+/// Whether this text at the front of names leaves out more than the prefixes that are asked for, as far as one can see.
+fn says_more(prepared: &Prepared, front: &[u8]) -> bool
+    ensures { IsFalse result → IsFalse (length prepared.now.under == 0) }
+{
+    prepared.under.is_empty() || prepared.under.have(front)
 }
 
 impl Taken<'_> {

@@ -58,7 +58,8 @@ pub(crate) fn found_by(way: &Way<'_>) -> FoundBy
     }
 }
 
-/// The pattern for the lines of the tree, compiled. `None` means that its tables would be too large, or that memory ran out.
+/// The pattern for the lines of the tree, compiled. `None` means that its tables would be too large, that they would take long, or
+/// that memory ran out.
 pub fn compile_for_lines(alloc: Global, tree: &Ere) -> Option<Compiled>
     ensures { IfSome result (IsCompiledForLines (form tree.now)) }
 {
@@ -68,7 +69,8 @@ pub fn compile_for_lines(alloc: Global, tree: &Ere) -> Option<Compiled>
     }
 }
 
-/// The pattern of the tree, compiled. `None` means the same.
+/// The pattern of the tree, compiled. `None` means that its tables would be too large, that they would take long, or that memory ran
+/// out.
 pub fn compile(alloc: Global, tree: &Ere) -> Option<Compiled>
     ensures { IfSome result (IsCompiledFrom (form tree.now)) }
 {

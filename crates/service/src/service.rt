@@ -559,8 +559,8 @@ impl<J: Naming> Service<J> {
     }
 
     /// Brings the copy of the index that is not searched further up to date, ahead of the next publish, by a piece: commands that
-    /// come to some `PIECE` bytes of bodies, or a part of one. Returns whether more is left. It is for a time when no event is ready: one that
-    /// comes meanwhile waits for this piece alone.
+    /// come to some `PIECE` bytes of bodies, or a part of one. Returns whether more is left. It is for a time when no event is
+    /// ready: one that comes meanwhile waits for this piece alone.
     ///
     /// The first piece after a publish waits for searches that are taking their candidates from that copy.
     pub fn catch_up<R: Wait>(&mut self, rt: &R) -> bool

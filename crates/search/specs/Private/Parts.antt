@@ -1,5 +1,9 @@
 -- The candidates that are taken first.
-use Rattle.std.specs.Prelude.{◌≡◌, ℕ, ◌<◌, List, [], ◌++◌, length}
+use Rattle.std.specs.Prelude.{◌≡◌, ℕ, ◌<◌, List, [], ◌++◌, filter, length}
+use Rattle.index.specs.Documents.{AreFirstInNameOrder, is_chosen}
+use Rattle.index.specs.Shared.{documents_shared}
+use Rattle.prepare.specs.Pattern.{Pattern}
+use Rattle.search.specs.Front.{AreFronts}
 use Rattle.index.specs.State.{State}
 use Rattle.index.specs.declared.document.SharedDocument.{SharedDocument}
 use Rattle.prepare.specs.Request.{Request}
@@ -11,3 +15,9 @@ pub record IsTakenUpTo (most : ℕ) (state : State) (request : Request) (taken :
   pub others : List SharedDocument
   pub is : IsTakenAmong (taken.candidates.items ++ others) state request taken
   pub all_or_most : length taken.candidates.items < most → others ≡ []
+
+-- Of the documents with these numbers whose names begin as every name begins that is asked for, they are the first ones.
+pub record AreFirstFronted (most : ℕ) (state : State) (pattern : Pattern) (members : List ℕ) (shared : List SharedDocument) : Type 0 where
+  pub fronts : List (List ℕ)
+  pub named : AreFronts pattern fronts
+  pub first : AreFirstInNameOrder most (filter (is_chosen members fronts) state.documents) (documents_shared shared)

@@ -1,5 +1,5 @@
 -- The ways in which lines that contain a match of a tree are found, and which of them is taken.
-use Rattle.std.specs.Prelude.{ℕ, ◌+◌, ◌<◌, ◌≤◌, List, length, map, sum, take}
+use Rattle.std.specs.Prelude.{ℕ, IsTrue, ◌+◌, ◌<◌, ◌≤◌, List, length, map, sum, take}
 use Rattle.ere.specs.Tree.{Tree}
 use Rattle.engine.specs.Patterns.{IsLineFinderOf}
 use Rattle.matcher.specs.Steps.{IsQuick}
@@ -7,6 +7,7 @@ use Rattle.simulation.specs.Simulations.{IsSimulationOf}
 use Rattle.index.specs.declared.document.SharedDocument.{SharedDocument}
 use Rattle.views.specs.declared.shown.FoundBy.{FoundBy}
 use Rattle.views.specs.declared.shown.FoundBy.TheVariants as by
+use Rattle.prepare.specs.Pattern.{Pattern}
 use Rattle.search.specs.declared.way.Way.{Way}
 use Rattle.search.specs.declared.way.Way.TheVariants.{FromMatchToMatch, Matcher, Simulation}
 
@@ -37,3 +38,7 @@ pub record AreFew (tree : Tree) (documents : List SharedDocument) (few : ℕ) : 
   pub quick : 0 < few → IsQuick tree
   pub within : bytes_in (take few documents) ≤ byte_limit
   pub most : IsQuick tree → few < length documents → byte_limit < bytes_in (take (few + 1) documents)
+
+-- The document's name is asked for by what it begins with.
+abbrev pub IsBegun : Pattern → SharedDocument → Type 0
+IsBegun pattern document = IsTrue (pattern.within document.name)

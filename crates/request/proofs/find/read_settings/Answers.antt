@@ -6,13 +6,14 @@ use Rattle.request.proofs.find.read_settings.Goals as goal
 
 pub loop-left-init : goal.loop-left-init
 loop-left-init c =
-    let none : shown_settings c.new-settings.result.items ≡ [] = ap shown_settings c.new-settings.ensures.items in
-    record { before = rw none spelled.done; allowed = rw none allowed_none }
+    let none : shown_settings c.none-earlier.result.settings.items ≡ [] = ap shown_settings c.none-earlier.ensures.none in
+    record { before = rw none spelled.done; allowed = rw none allowed_none; tally = c.none-earlier.ensures.tally }
 
 pub loop-left-preserved : goal.loop-left-preserved
 loop-left-preserved c =
-    let more = ap shown_settings c.in_ok-push.ensures.items ∙ shown_push c.loop-left.settings.items c.in_ok-taken.taken.setting in
+    let more = ap shown_settings c.in_ok-push.ensures.settings ∙ shown_push c.loop-left.earlier.settings.items c.in_ok-taken.taken.setting in
     record {
       before = rw more (settings_push c.loop-left.invariant.before c.in_ok-taken.ensures.ok);
-      allowed = rw more (allowed_push _ _ c.loop-left.invariant.allowed (rw c.deref.ensures.value at c.in_ok-taken.ensures.free));
+      allowed = rw more (allowed_push _ _ c.loop-left.invariant.allowed c.in_ok-taken.ensures.free);
+      tally = c.in_ok-push.ensures.tally;
     }

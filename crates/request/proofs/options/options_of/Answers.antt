@@ -17,4 +17,6 @@ returns-clause-ok c =
       c.has_option-7.ensures,
       c.lane_of.ensures,
       c.in_ok-names.ensures.ok,
+      c.in_ok-under.ensures.ok,
+      c.in_ok-not_under.ensures.ok,
     ) refl

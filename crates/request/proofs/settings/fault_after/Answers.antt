@@ -6,47 +6,37 @@ use Rattle.request.specs.Private.Kept.{shown_settings}
 use Rattle.request.proofs.NameLemmas.{clash_if_excluded, clash_if_twice, free_if_other, free_if_repeatable, same_name, same_itself}
 use Rattle.request.proofs.OptionLemmas.{filler}
 use Rattle.request.proofs.SettingLemmas.{clash_here, counted_all, free_of_all, no_clash}
+use Rattle.request.proofs.TallyLemmas.{kept_clash, kept_times, kept_together}
 use Rattle.request.proofs.settings.fault_after.Goals as goal
 use Rattle.request.proofs.settings.fault_after.Goals.{then-is+else-not-is_repeatable, else-is+else-excludes}
 
 pub returns-then-not-is_repeatable : goal.returns-then-not-is_repeatable
 returns-then-not-is_repeatable c = λ text named.
-    let here = get_or c.args.earlier.now c.loop-setting.setting-index filler in
+    let here = get_or c.deref-setting-items.result.now c.loop-setting.setting-index filler in
     let same : here.name ≡ c.args.name = same_name _ _ (sym c.if-is.ensures) in (
       named,
-      clash_here c.args.earlier.now c.loop-setting.setting-index filler c.args.name c.loop-setting-test.true c.loop-setting.invariant.together
+      kept_clash c.args.earlier.now c.requires c.deref-setting-items.result.now c.deref-setting-items.ensures.value c.args.name
+          ∙ clash_here c.deref-setting-items.result.now c.loop-setting.setting-index filler c.args.name c.loop-setting-test.true c.loop-setting.invariant.together
           (clash_if_twice here.name c.args.name same (sym c.if-not-is_repeatable.ensures))
           ∙ ap (λ n. Some n) same,
     )
 
 pub returns-then-excludes : goal.returns-then-excludes
 returns-then-excludes c = λ text named.
-    let here = get_or c.args.earlier.now c.loop-setting.setting-index filler in (
+    let here = get_or c.deref-setting-items.result.now c.loop-setting.setting-index filler in (
       named,
       λ same.
           let test : is_same here.name c.args.name ≡ true = ap (λ n. is_same n c.args.name) same ∙ same_itself c.args.name in
           let no : false ≡ true = c.if-is.ensures ∙ test in
           absurd (cc no),
-      clash_here c.args.earlier.now c.loop-setting.setting-index filler c.args.name c.loop-setting-test.true c.loop-setting.invariant.together
+      kept_clash c.args.earlier.now c.requires c.deref-setting-items.result.now c.deref-setting-items.ensures.value c.args.name
+          ∙ clash_here c.deref-setting-items.result.now c.loop-setting.setting-index filler c.args.name c.loop-setting-test.true c.loop-setting.invariant.together
           (clash_if_excluded here.name c.args.name (sym c.if-excludes.ensures)),
-    )
-
-pub returns-then-times-ge-MAX_TIMES : goal.returns-then-times-ge-MAX_TIMES
-returns-then-times-ge-MAX_TIMES c = λ text named.
-    let free = free_of_all c.args.earlier.now c.args.name c.loop-setting.setting-index c.loop-setting-test.false c.loop-setting.invariant.together in (
-      named,
-      no_clash (shown_settings c.args.earlier.now) c.args.name free,
-      omega (
-        arith,
-        counted_all c.args.earlier.now c.args.name c.loop-setting.setting-index c.loop-setting.times c.loop-setting-test.false
-            c.loop-setting.invariant.counted,
-        c.if-times-ge-MAX_TIMES.true,
-      ),
     )
 
 pub loop-setting-preserved : goal.loop-setting-preserved
 loop-setting-preserved c =
-    let settings = c.args.earlier.now in
+    let settings = c.deref-setting-items.result.now in
     let at = c.loop-setting.setting-index in
     let inside = c.loop-setting-test.true in
     let here = get_or settings at filler in
@@ -75,15 +65,38 @@ loop-setting-preserved c =
           }
     ]
 
+pub returns-then-times-prefix_times : goal.returns-then-times-prefix_times
+returns-then-times-prefix_times c = λ text named.
+    let items = c.deref-setting-items.result.now in
+    let is = c.deref-setting-items.ensures.value in
+    let free = free_of_all items c.args.name c.loop-setting.setting-index c.loop-setting-test.false c.loop-setting.invariant.together in (
+      named,
+      kept_clash c.args.earlier.now c.requires items is c.args.name ∙ no_clash (shown_settings items) c.args.name free,
+      omega (
+        arith,
+        counted_all items c.args.name c.loop-setting.setting-index c.loop-setting.times c.loop-setting-test.false c.loop-setting.invariant.counted,
+        kept_times c.args.earlier.now c.requires items is c.args.name,
+        c.prefix_times.ensures,
+        c.most_times.ensures,
+        c.if-times-prefix_times.true,
+      ),
+    )
+
 pub returns : goal.returns
 returns c =
+    let items = c.deref-setting-items.result.now in
+    let is = c.deref-setting-items.ensures.value in
     record {
-      together = free_of_all c.args.earlier.now c.args.name c.loop-setting.setting-index c.loop-setting-test.false c.loop-setting.invariant.together;
+      together =
+          kept_together c.args.earlier.now c.requires items is c.args.name
+          (free_of_all items c.args.name c.loop-setting.setting-index c.loop-setting-test.false c.loop-setting.invariant.together);
       few =
           omega (
             arith,
-            counted_all c.args.earlier.now c.args.name c.loop-setting.setting-index c.loop-setting.times c.loop-setting-test.false
-                c.loop-setting.invariant.counted,
-            c.if-times-ge-MAX_TIMES.false,
+            counted_all items c.args.name c.loop-setting.setting-index c.loop-setting.times c.loop-setting-test.false c.loop-setting.invariant.counted,
+            kept_times c.args.earlier.now c.requires items is c.args.name,
+            c.prefix_times.ensures,
+            c.most_times.ensures,
+            c.if-times-prefix_times.false,
           );
     }

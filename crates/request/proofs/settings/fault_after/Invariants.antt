@@ -6,7 +6,7 @@ use Rattle.request.proofs.settings.fault_after.Given as goal
 
 abbrev pub invariant-loop-setting : goal.invariant-loop-setting
 invariant-loop-setting l = record {
-  together : All (λ s. clashes s.name l.name ≡ false) (take l.setting-index l.earlier);
-  counted : l.times ≡ count_by (λ s. is_same s.name l.name) (take l.setting-index l.earlier);
+  together : All (λ s. clashes s.name l.name ≡ false) (take l.setting-index l.setting-items);
+  counted : l.times ≡ count_by (λ s. is_same s.name l.name) (take l.setting-index l.setting-items);
   few : l.times ≤ l.setting-index;
 }

@@ -9,5 +9,5 @@ returns-in_err-followed-clause-err c =
     let p = err_from_is_err_and c.from_residual.result c.from_residual.ensures.1 in
     let named = ap option_named (sym c.cut_word-cut.ensures.word) ∙ sym c.in-Some.ensures in
     rw (p.1, p.2)
-    (c.in_err-followed.ensures.err (shown_settings c.args.earlier.now) c.args.text.now named (sym c.cut_word-cut.ensures.after)
+    (c.in_err-followed.ensures.err (shown_settings c.args.earlier.now.settings.items) c.args.text.now named (sym c.cut_word-cut.ensures.after)
     c.in_default-fault_after.ensures)

@@ -17,7 +17,7 @@ to_put commands pattern found h = record {
   counted = h.counted;
   line = h.line;
   hit = h.hit;
-  name_hits = h.name_hits;
+  admitted = h.admitted;
 }
 
 from_put : (commands : List Command) (pattern : Pattern) (found : Hit) → IsHitOfPut commands pattern found → IsHit (state_of commands) pattern found
@@ -30,7 +30,7 @@ from_put commands pattern found h =
       counted = h.counted;
       line = h.line;
       hit = h.hit;
-      name_hits = h.name_hits;
+      admitted = h.admitted;
     }
 
 pub returns-clause-version : goal.returns-clause-version

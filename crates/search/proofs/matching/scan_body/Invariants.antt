@@ -1,4 +1,4 @@
-use Rattle.std.proofs.Common.{◌≡◌, ◌+◌, ◌≤◌, ℕ, List, length}
+use Rattle.std.proofs.Common.{◌+◌, ◌≤◌, ℕ, List, length}
 use Rattle.ere.specs.Tree.{form}
 use Rattle.prepare.specs.Tests.{test_of}
 use Rattle.lines.specs.Lines.{lines_of}

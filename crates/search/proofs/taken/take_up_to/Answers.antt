@@ -2,11 +2,9 @@ use Rattle.std.proofs.Common.{◌++◌, filter, map, ◌∙◌, sym, ap, refl, s
 use Rattle.std.proofs.lemmas.List.{length-map}
 use Rattle.query.specs.Query.{formula_of}
 use Rattle.index.proofs.StoredLemmas.{Numbered-rise}
-use Rattle.index.specs.Documents.{AreFirstInNameOrder, IsInNameOrder, is_chosen}
+use Rattle.index.specs.Documents.{IsInNameOrder, is_chosen}
 use Rattle.index.specs.Shared.{document_of, documents_shared}
-use Rattle.prepare.specs.Front.{IsFrontOf}
 use Rattle.prepare.specs.Prepared.{pattern_of}
-use Rattle.prepare.specs.Tests.{test_of}
 use Rattle.search.proofs.CandidateLemmas.{counted, fewer, candidates_in_order}
 use Rattle.search.proofs.FirstLemmas.{shared_of, shared-others}
 use Rattle.search.proofs.taken.take_up_to.Goals as goal
@@ -27,10 +25,9 @@ returns c =
     let pattern = pattern_of prepared in
     let formula = formula_of prepared.query in
     let members = c.in_ok-numbers.numbers.members in
-    let front = c.in_ok-front.front.items in
     let items = c.in_ok-candidates.candidates.items in
-    let first = subst (λ text. AreFirstInNameOrder c.args.most (filter (is_chosen members text) state.documents) (documents_shared items))
-    c.deref-2.ensures.value c.in_ok-candidates.ensures in
+    let found = c.in_ok-candidates.ensures in
+    let first = found.first in
     let others = map shared_of first.others in
     record {
       others = others;
@@ -43,12 +40,12 @@ returns c =
             is_state = c.version.ensures.state;
             candidates =
                 record {
-                  front = front;
-                  named = subst (λ tests. IsFrontOf (map test_of tests) front) c.deref.ensures.value c.in_ok-front.ensures.begins;
+                  fronts = found.fronts;
+                  named = found.named;
                   in_order =
                       candidates_in_order state pattern formula (Numbered-rise state.documents c.version.ensures.state.rise) prepared.filter members
-                      c.in_ok-numbers.ensures front (documents_shared (items ++ others))
-                      (subst (λ ds. IsInNameOrder (filter (is_chosen members front) state.documents) ds) (sym (shared-others items first.others))
+                      c.in_ok-numbers.ensures found.fronts (documents_shared (items ++ others))
+                      (subst (λ ds. IsInNameOrder (filter (is_chosen members found.fronts) state.documents) ds) (sym (shared-others items first.others))
                       first.in_order);
                 };
           };

@@ -12,10 +12,10 @@ returns c =
     rows.run_is c.in_ok-masks.masks.items _ c.args.row.now _ c.args.copies (shape-Run c.in_ok-masks.masks _) c.requires.some.1 c.requires.fits refl (omega arith)
     c.in_ok-masks.ensures c.marks.ensures c.marks-2.ensures
 
-one_of : (row : List RowSet) (place : RowSet) → length row ≡ 1 → place ≡ get_or row 0 place → place ∷ [] ≡ row
+one_of : (sets : List RowSet) (place : RowSet) → length sets ≡ 1 → place ≡ get_or sets 0 place → place ∷ [] ≡ sets
 one_of [] place one is = absurd (omega arith)
 one_of (other ∷ []) place one is = ap (λ p. p ∷ []) is
-one_of (other ∷ next ∷ row) place one is = absurd (omega arith)
+one_of (other ∷ next ∷ sets) place one is = absurd (omega arith)
 
 pub returns-then-row-eq1 : goal.returns-then-row-eq1
 returns-then-row-eq1 c =

@@ -1,0 +1,2 @@
+pub mod UnderLemmas
+mod ReducedLemmas

@@ -1,0 +1,2 @@
+-- How prefixes are kept. The modules are `pub` because a clause can cite no others.
+pub mod Apart
