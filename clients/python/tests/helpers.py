@@ -63,6 +63,7 @@ class Model:
         flags = ["ignore_case", "literal", "whole_words", "whole_lines", "invert", "names_ignore_case"]
         options: dict = {flag: True for flag in flags if source.random() < 0.15}
         options |= source.choice([{}, {}, {"names": "1/F"}, {"not_names": [r"f1", "2\\.c$"]}, {"names": ["dir", "[02-9]"], "not_names": "f2"}])
+        options |= source.choice([{}, {}, {"under": ["dir 1/", "f"]}, {"not_under": "dir"}, {"under": "dir", "not_under": ["dir 2/f1", "d/"]}])
         views = [{}, {"names_only": True}, {"counts": True}, {"header_only": True}, {"context": source.choice([0, 1, 3])}]
         if not options.get("invert"):
             views += [{"column": True}, {"spans": True}, {"context": 2, "spans": True}, {"column": True, "spans": True}]
@@ -138,8 +139,11 @@ def is_named(name: bytes, get) -> bool:
     def matches(ere: str) -> bool:
         return bool(re.search(ere.encode(), name, re.IGNORECASE if get("names_ignore_case") else 0))
 
-    wanted, unwanted = ([found] if isinstance(found, str) else found for found in (get("names", []), get("not_names", [])))
-    return all(map(matches, wanted)) and not any(map(matches, unwanted))
+    lists = (get(key, []) for key in ("names", "not_names", "under", "not_under"))
+    wanted, unwanted, among, not_among = ([found] if isinstance(found, str) else found for found in lists)
+    starts, others = (tuple(quoted(one.encode()) for one in some) for some in (among, not_among))
+    is_under = (not starts or name.startswith(starts)) and not name.startswith(others)
+    return is_under and all(map(matches, wanted)) and not any(map(matches, unwanted))
 
 
 def places(compiled: re.Pattern[bytes], line: bytes, get, is_found: bool) -> tuple:

@@ -37,12 +37,15 @@ class Sending(unittest.TestCase):
             (Query.of("-- x", ["a", b"\xff"], "c", invert=True), b"find -Z -v -n a -n \xff -N c -- -- x\n"),
             (Query.of("x", ignore_case=True, literal=True, whole_words=True, whole_lines=True), b"find -Z -i -F -w -x -- x\n"),
             (Query.of("x", not_names=["a"], names_ignore_case=True, context=0), b"find -Z -I -N a -C 0 -- x\n"),
+            (Query.of("x", under="a b/", not_under=["a b/\xff", b"%"]), b"find -Z --under a%20b/ --not-under a%20b/\xc3\xbf --not-under %25 -- x\n"),
             (Query.of("x", column=True), b"find -Z --column -- x\n"),
             (Query.of("x", spans=True), b"find -Z --spans -- x\n"),
             (Query.of("x", names_only=True), b"find -Z -l -- x\n"),
             (Query.of("x", counts=True), b"find -Z -c -- x\n"),
             (Query.of("x", header_only=True, limit=1), b"find -Z -q -m 1 -- x\n"),
             (Query.of("x", limit=1, lane="visitor-7"), b"find -Z -m 1 --lane visitor-7 -- x\n"),
+            (Query.of("x", under="a b/", not_under=["c", b"\xff\n"]), b"find -Z --under a%20b/ --not-under c --not-under \xff%0A -- x\n"),
+            (Query.of("x", "y", under=["a", "b"], limit=2), b"find -Z -n y --under a --under b -m 2 -- x\n"),
             (Query.of("x", lane=b"\xff" * 64), b"find -Z --lane " + b"\xff" * 64 + b" -- x\n"),
         ):
             self.assertEqual(core.find(query)[1], [item])
@@ -66,6 +69,10 @@ class Sending(unittest.TestCase):
             with self.assertRaises(OptionRefused) as refused:
                 core.find(Query.of("x", lane=lane))
             self.assertEqual(refused.exception.reason, "option --lane needs a word of 1 to 64 bytes")
+        for prefixes in {"under": ""}, {"not_under": ["a", b""]}:
+            with self.assertRaises(OptionRefused) as refused:
+                core.find(Query.of("x", **prefixes))
+            self.assertEqual(refused.exception.reason, f"option --{next(iter(prefixes)).replace('_', '-')} needs a word of 1 byte or more")
         # as in the program, name patterns come first
         for query, number in (Query.of("a\nb", "c d", "e f"), 1), (Query.of("a\nb", "c", "e f"), 2), (Query.of("a\nb", "c", "e"), 0):
             with self.assertRaises(PatternRefused) as raised:

@@ -85,6 +85,8 @@ class Repositories(Host):
         self.assertEqual(review(before, "main")[-1]["added"], 1)
         self.assertEqual(review(before, "hidden"), [{"refused": "hidden is no commit that is served"}])
         self.assertEqual(review("", "main")[0]["refused"], " is no commit that is served")
+        self.assertEqual(review("main^{/new}", "main")[0]["refused"], "main^{/new} is no commit that is served")
+        self.assertEqual(review("main^{/}", "main")[0]["refused"], "main^{/} is no commit that is served")
         # history that is written anew
         made.commit("main", {b"only": b"int only;\n"}, start=None)
         until(lambda: server.hits("int only"))
@@ -106,6 +108,12 @@ class Repositories(Host):
         self.assertEqual(self.view(server, other, "src/util.c")[0], 200)
         rows = server.lines("/api/review", repository="made", before="main", after="topic", q="int")
         self.assertEqual([row["after"]["name"] for row in rows if "hits" in row], ["src/util.c"])
+        for own in {"not_under": ["secret/"]}, {"under": ["src/", "caf"]}:
+            server.headers = {"X-Filters": json.dumps({"made": own})}
+            self.assertEqual(names(), ["caf\ufffd x", "src/main.c", "src/util.c"])
+            self.assertEqual(self.view(server, self.first, "secret/key.c")[0], 410)
+            rows = server.lines("/api/review", repository="made", before="main", after="topic", q="int")
+            self.assertEqual([row["after"]["name"] for row in rows if "hits" in row], ["src/util.c"])
         server.headers = {"X-Filters": json.dumps({"made": {"names": ["("]}})}
         for rows in server.find("int"), server.lines("/api/review", repository="made", before="main", after="topic", q="int"):
             self.assertEqual(rows, [{"refused": "group not closed", "offset": 0, "in": "host"}])

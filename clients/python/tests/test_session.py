@@ -127,6 +127,29 @@ class Answers(unittest.TestCase):
                 self.assertEqual((published.documents, published.accepted), (len(left), len(names) + (left != names)))
                 self.assertEqual(sorted(session.find("x", names_only=True).names()), sorted(left))
 
+    def test_searches_under_prefixes(self) -> None:
+        names = [b"%41/b", b"%41", b"A/b", b"a b/c", b"a b", b"a/b", b"\xff/a", b"\xff"]
+        with tsearch.Session() as session:
+            for name in names:
+                session.put(name, b"x")
+            session.publish()
+            for under, not_under in (b"%", []), ("a ", "a b/"), ([b"\xff", "A"], []), ([], ["a", b"%41/"]), ("a/b", "a"), (["a b/c/"], []):
+                with self.subTest(under=under, not_under=not_under):
+                    first, second = (tuple(map(tsearch.names.to_bytes, [one] if isinstance(one, (str, bytes)) else one)) for one in (under, not_under))
+                    wanted = [name for name in names if (not first or name.startswith(first)) and not name.startswith(second)]
+                    found = session.find("x", names_only=True, under=under, not_under=not_under).names()
+                    self.assertEqual(sorted(found), sorted(wanted))
+            many = [f"{number}/" for number in range(4_095)]
+            self.assertEqual(session.find("x", names_only=True, under=[*many, "a/"], not_under=many).names(), [b"a/b"])
+            for options, reason in (
+                ({"under": ""}, "option --under needs a word of 1 byte or more"),
+                ({"not_under": ["a", b""]}, "option --not-under needs a word of 1 byte or more"),
+                ({"under": [*many, "a", "b"]}, "option --under over 4096 times"),
+            ):
+                with self.assertRaises(tsearch.OptionRefused) as refused:
+                    session.find("x", timeout=SECONDS, **options)
+                self.assertEqual(refused.exception.reason, reason)
+
     def test_escaped_texts(self) -> None:
         """The pattern that is made of a text finds this text alone, whatever its bytes mean in a pattern."""
         texts = [b"a%cb" % byte for byte in range(1, 256) if byte != 10] + [b"ab", b"aab", b"a{2}b", b"a(b)c", b"[ab]", b"^a$"]
@@ -198,10 +221,25 @@ class Refusals(unittest.TestCase):
                 self.assertEqual(found.pattern.decode(), name or pattern)
                 again = pickle.loads(pickle.dumps(found))
                 self.assertEqual((str(again), again.offset), (str(found), offset))
-            for options in {"limit": 0}, {"context": -1}, {"context": 1_001}, {"counts": True, "spans": True}, {"names": ["x"] * 17}:
+            for options in {"limit": 0}, {"context": -1}, {"context": 1_001}, {"counts": True, "spans": True}, {"names": ["x"] * 17}, {"under": ["x"] * 4_097}:
                 self.assertRaises(tsearch.OptionRefused, session.find, "x", **options)
             self.assertRaises(TypeError, session.find, "x", name="y")
             self.assertEqual(session.status().accepted, 0)
+
+    def test_of_prefixes(self) -> None:
+        """Each of many prefixes stands for the names that begin with it, as `bytes.startswith` tells."""
+        names = [b"a", b"a b", b"a b/c", b"a/b", b"ab", b"b%20", b"b/\xff\n", b"\xff", b"z" * 900]
+        with tsearch.Session() as session:
+            for name in names:
+                session.put(name, b"x\n")
+            session.publish()
+            prefixes = [(), (b"a",), (b"a b", b"a/"), (b"b%20", b"b/\xff\n", b"b "), (b"z" * 899,), (b"no",), tuple(b"a%d" % at for at in range(4_095)) + (b"ab",)]
+            for under in prefixes:
+                for other in prefixes:
+                    found = session.find("x", under=under, not_under=other, names_only=True).names()
+                    wanted = [name for name in names if (not under or name.startswith(under)) and not name.startswith(other)]
+                    self.assertEqual(sorted(found), sorted(wanted), (under[:3], other[:3]))
+            self.assertEqual(session.find("x", under="a", names="b$", limit=1, names_only=True).names(), [b"a b"])
 
     def test_nothing_that_is_typed_becomes_another_item(self) -> None:
         """Each of many patterns and name patterns, most of them hostile, is answered or refused, and changes nothing."""
@@ -216,7 +254,7 @@ class Refusals(unittest.TestCase):
             session.publish()
             counts = [0, 0]
             for _ in range(600):
-                options = source.choice([{}, {"names": typed()}, {"not_names": [typed(), typed()]}, {"literal": True}, {"invert": True}])
+                options = source.choice([{}, {"names": typed()}, {"not_names": [typed(), typed()]}, {"under": typed() + "a"}, {"literal": True}, {"invert": True}])
                 try:
                     session.find(typed(), timeout=SECONDS, **options)
                     counts[0] += 1

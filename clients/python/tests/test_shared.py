@@ -111,6 +111,14 @@ class Several(unittest.TestCase):
             self.assertEqual(hits_by_repository(rows), self.alone("alpha", **words))
             names = {name for found in (hits_by_repository(rows)[one] for one in ("r2", "files")) for name, _ in found}
             self.assertEqual({name.split("/")[0] for name in names} - {"dir 1"}, set())
+        self.see({"r1": {"not_under": ["dir 1/"]}, "r2": {"under": ["dir 1/", "f"]}, "r4": {"under": ["dir 2/"], "names": ["f1"]}, "files": {"not_under": ["dir 1/"]}})
+        for words in {}, {"name": "f1"}, {"not": "^dir 2"}:
+            rows = self.server.find("alpha", **words)
+            self.assertEqual(hits_by_repository(rows), self.alone("alpha", **words))
+            names = {repository: {name for name, _ in found} for repository, found in hits_by_repository(rows).items()}
+            self.assertFalse([name for one in ("r1", "files") for name in names[one] if name.startswith("dir 1/")])
+            self.assertFalse([name for name in names["r2"] if not name.startswith(("dir 1/", "f"))])
+            self.assertFalse([name for name in names["r4"] if not name.startswith("dir 2/") or "f1" not in name])
         self.see({"r1": {}, "r2": {"names": ["("]}})
         self.assertEqual(self.server.find("alpha"), [{"refused": "group not closed", "offset": 0, "in": "host"}])
 
@@ -155,30 +163,34 @@ class Parts(unittest.TestCase):
         none = Answer(1, 1, 0, False, View.CONTEXT, b"", spans_data=None)
         self.assertEqual(parted(none, [b"1::"]), [none])
 
-    def test_patterns_of_many_repositories(self) -> None:
-        """Each is short enough, and together they are for all."""
-        from tsearch.web.searching import _fitting, _Part, _starts
+    def test_many_repositories_at_once(self) -> None:
+        """A search takes so many, and finds what is in these alone, under the paths that it is for."""
+        from tsearch.web.searching import _fitting, _in, _Part
 
         source = random.Random(3)
         revisions = ["main", "", "release/" + "1." * 40, "v+(2)|3^$", "caf\udce9"]
         parts = []
-        for number in range(1, 700):
+        for number in range(1, 2_001):
             start = b"%d:%s:" % (number, tsearch.names.to_bytes(source.choice(revisions)))
             parts.append(_Part(number, None, "", start, tsearch.names.quote(start)))
-        some = list(_fitting(parts))
-        self.assertEqual(sorted(part.at for fitting in some for part in fitting), list(range(1, 700)))
-        patterns = [b"^" + _starts(fitting) for fitting in some]
-        self.assertLess(max(map(len, patterns)), 1_025)
-        self.assertLess(len(patterns), 8)
+        query = tsearch.query.Query.of("x", names_only=True)
         with tsearch.Session() as session:
             for part in parts:
-                session.put(part.start + b"a:b", b"x\n")
-                session.put(b"1" + part.start + b"a", b"x\n")
+                for name in part.start + b"a:b", part.start + b"c", b"1" + part.start + b"a":
+                    session.put(name, b"x\n")
             session.publish()
-            for fitting, pattern in zip(some, patterns):
-                found = session.find("x", names=pattern, names_only=True).names()
-                wanted = {part.start for part in fitting}
-                self.assertEqual({name[: -len(b"a:b")] for name in found if name.endswith(b"a:b")}, wanted)
+            for under, not_under in ((), ()), ((b"a", b"d", b"e"), ()), ((), (b"a", b"d")):
+                asked = dataclasses.replace(query, under=under, not_under=not_under)
+                some = list(_fitting(asked, parts[::2]))
+                self.assertEqual([part.at for fitting in some for part in fitting], list(range(1, 2_001, 2)))
+                self.assertEqual(len(some), 1)
+                found = session.find_query(_in(asked, some[0])).names()
+                paths = [path for path in (b"a:b", b"c") if (not under or path.startswith(under)) and not path.startswith(not_under)]
+                starts = {part.start for part in parts[::2]}
+                wanted = {start + path for start in starts for path in paths}
+                wanted |= {name for part in parts for name in [b"1" + part.start + b"a"] if name[:-1] in starts and b"a:b" in paths}
+                self.assertEqual(set(found), wanted)
+        self.assertEqual(len(list(_fitting(dataclasses.replace(query, under=(b"a",) * 4_096), parts))), 2_000)
 
 
 class Marking(unittest.TestCase):

@@ -58,7 +58,7 @@ class Faults(Place):
         self.write({b"a": b"foo\n"})
         warm = self.warm()
         pattern = "x" * 2_000
-        for line, kind, where in (
+        lines = [
             (b"x", "request", {"offset": 0}),
             (b'{"id": 1, "do": "find", }', "request", {"offset": 24}),
             (b'{"id": 1, "do": "find", "pattern": "\xff"}', None, {}),
@@ -68,25 +68,32 @@ class Faults(Place):
             (b'{"id": [], "do": "status"}', "request", {"in": "id"}),
             (b'{"id": 1, "do": "cancel", "of": []}', "request", {"in": "of"}),
             (b'{"id": 1, "do": "find"}', "request", {"in": "pattern"}),
-            (b'{"id": 1, "do": "find", "pattern": 5}', "request", {"in": "pattern"}),
-            (b'{"id": 1, "do": "find", "pattern": "\\ud800"}', "request", {"in": "pattern"}),
-            (b'{"id": 1, "do": "find", "pattern": "a", "limit": 0}', "request", {"in": "limit"}),
-            (b'{"id": 1, "do": "find", "pattern": "a", "limit": true}', "request", {"in": "limit"}),
-            (b'{"id": 1, "do": "find", "pattern": "a", "nonsense": 1}', "request", {"in": "nonsense"}),
-            (b'{"id": 1, "do": "find", "pattern": "a", "globs": ["!a", "b"]}', "request", {"in": "globs"}),
-            (b'{"id": 1, "do": "find", "pattern": "a", "types": ["none"]}', "request", {"in": "types"}),
-            (b'{"id": 1, "do": "find", "pattern": "a", "invert": true, "groups": true}', "request", {"in": "groups"}),
-            (b'{"id": 1, "do": "find", "pattern": "a(b"}', "pattern", {"in": "pattern", "offset": 1}),
-            (b'{"id": 1, "do": "find", "pattern": "a\\nb"}', "pattern", {"in": "pattern", "offset": 1}),
-            (b'{"id": 1, "do": "find", "pattern": "%s"}' % pattern.encode(), "pattern", {"in": "pattern", "offset": 1_024}),
-            (b'{"id": 1, "do": "find", "pattern": "a", "names": ["b", "(c"]}', "pattern", {"in": ["names", 1], "offset": 0}),
-            (b'{"id": 1, "do": "find", "pattern": "a", "globs": ["*.c"], "not_names": ["(c"]}', "pattern", {"in": ["not_names", 0], "offset": 0}),
-            (b'{"id": 1, "do": "find", "pattern": "a", "invert": true, "column": true}', "option", {}),
             (b'{"id": 1, "do": "edit", "name": "a", "first": 3, "lines": []}', "overlay", {}),
             (b'{"id": 1, "do": "edit", "name": "", "lines": []}', "overlay", {}),
             (b'{"id": 1, "do": "edit", "name": "a", "lines": ["x\\ny"]}', "request", {"in": "lines"}),
             (b'{"id": 1, "do": "overlay", "name": "a", "text": {"base64": "?"}}', "request", {"in": "text"}),
-        ):
+        ]
+        patterns = [
+            (b"5", "request", {"in": "pattern"}),
+            (b'"\\ud800"', "request", {"in": "pattern"}),
+            (b'"a(b"', "pattern", {"in": "pattern", "offset": 1}),
+            (b'"a\\nb"', "pattern", {"in": "pattern", "offset": 1}),
+            (b'"%s"' % pattern.encode(), "pattern", {"in": "pattern", "offset": 1_024}),
+        ]
+        options = [
+            (b'"limit": 0', "request", {"in": "limit"}),
+            (b'"limit": true', "request", {"in": "limit"}),
+            (b'"nonsense": 1', "request", {"in": "nonsense"}),
+            (b'"globs": ["!a", "b"]', "request", {"in": "globs"}),
+            (b'"types": ["none"]', "request", {"in": "types"}),
+            (b'"invert": true, "groups": true', "request", {"in": "groups"}),
+            (b'"names": ["b", "(c"]', "pattern", {"in": ["names", 1], "offset": 0}),
+            (b'"globs": ["*.c"], "not_names": ["(c"]', "pattern", {"in": ["not_names", 0], "offset": 0}),
+            (b'"invert": true, "column": true', "option", {}),
+        ]
+        lines += [(b'{"id": 1, "do": "find", "pattern": %s}' % given, *told) for given, *told in patterns]
+        lines += [(b'{"id": 1, "do": "find", "pattern": "a", %s}' % given, *told) for given, *told in options]
+        for line, kind, where in lines:
             with self.subTest(line=line[:80]):
                 warm._socket.sendall(line + b"\n")
                 answer = json.loads(warm._file.readline())

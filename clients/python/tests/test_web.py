@@ -139,6 +139,8 @@ class Web(unittest.TestCase):
             self.assertEqual(self.server.get(f"/api/file?{words}")[0], 400, words)
         self.assertEqual(self.server.get("/api/status", {"Host": "attacker.example"})[0], 403)
         self.assertEqual(self.server.get("/api/status", {"Host": "127.0.0.1@attacker.example:80"})[0], 403)
+        self.assertEqual(self.server.get("/api/status", {"Host": "[attacker"})[0], 403)
+        self.assertEqual(self.server.get("/api/status", {"Origin": "http://[attacker"})[0], 403)
         self.assertEqual(self.server.get("/api/status", {"Host": "localhost:80"})[0], 200)
 
     def test_long_lines(self) -> None:
@@ -304,7 +306,7 @@ class Filters(unittest.TestCase):
             self.assertEqual([one["repository"] for one in ask("/api/status")[1][0]["repositories"]], ["one"])
             # nothing without the header, and nothing with one that is not understood
             self.assertEqual(ask("/api/find?q=int", None)[1][0]["lines"], 0)
-            for text in "x", "[]", '{"one": 1}', '{"one": {"names": "src"}}', '{"one": {"name": ["src"]}}':
+            for text in "x", "[]", '{"one": 1}', '{"one": {"names": "src"}}', '{"one": {"name": ["src"]}}', '{"one": {"under": [""]}}', '{"one": {"not_under": "src"}}':
                 self.assertEqual(ask("/api/find?q=int", {"X-Filters": text})[0], 400, text)
             self.assertEqual(ask("/api/find?q=int", {"X-Filters": '{"one": {"names": ["("]}}'})[1][0]["in"], "host")
 

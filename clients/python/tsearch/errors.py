@@ -33,8 +33,8 @@ class PatternRefused(Refused):
 
 
 class OptionRefused(Refused):
-    """The options of a search exclude each other, a number is out of its range, a lane is no word, or there are over 16 of `names` or of
-    `not_names`."""
+    """The options of a search exclude each other, a number is out of its range, a lane is no word, a prefix is empty, or there are over 16
+    of `names` or of `not_names`, or over 4,096 of `under` or of `not_under`."""
 
 
 class ChangeRefused(Refused):

@@ -13,6 +13,8 @@ from .errors import OptionRefused, PatternRefused
 from .names import quote, to_bytes
 
 MAX_PATTERN = 1_024
+# So many prefixes of a kind a search has.
+MAX_PREFIXES = 4_096
 _LANE = re.compile(rb"[^ \n]{1,64}")
 _SPECIAL = re.compile(rb"[\\^$.[|()*+?{]")
 
@@ -29,6 +31,8 @@ class Options(TypedDict, total=False):
     invert: bool
     names: Patterns
     not_names: Patterns
+    under: Patterns
+    not_under: Patterns
     names_ignore_case: bool
     limit: int | None
     context: int | None
@@ -66,6 +70,8 @@ class Query:
     invert: bool = False
     names: tuple[bytes, ...] = ()
     not_names: tuple[bytes, ...] = ()
+    under: tuple[bytes, ...] = ()
+    not_under: tuple[bytes, ...] = ()
     names_ignore_case: bool = False
     limit: int | None = None
     context: int | None = None
@@ -78,11 +84,19 @@ class Query:
 
     @classmethod
     def of(
-        cls, pattern: str | bytes, names: Patterns = (), not_names: Patterns = (), lane: str | bytes | None = None, **options: bool | int | None
+        cls,
+        pattern: str | bytes,
+        names: Patterns = (),
+        not_names: Patterns = (),
+        under: Patterns = (),
+        not_under: Patterns = (),
+        lane: str | bytes | None = None,
+        **options: bool | int | None,
     ) -> Query:
         """The query for the arguments of `find`."""
+        lists = {"names": names, "not_names": not_names, "under": under, "not_under": not_under}
         queue = None if lane is None else to_bytes(lane)
-        return cls(to_bytes(pattern), names=_list_of(names), not_names=_list_of(not_names), lane=queue, **options)  # type: ignore[arg-type]
+        return cls(to_bytes(pattern), lane=queue, **{word: _list_of(given) for word, given in lists.items()}, **options)  # type: ignore[arg-type]
 
     @property
     def view(self) -> View:
@@ -106,10 +120,13 @@ class Query:
 
     def item(self) -> bytes:
         """The item. `PatternRefused` for what would be something else, or would be too long to be sent, and `OptionRefused` for such a
-        lane."""
+        lane and for an empty prefix."""
         self._check()
         if self.lane is not None and not _LANE.fullmatch(self.lane):
             raise OptionRefused("option --lane needs a word of 1 to 64 bytes")
+        for word, prefixes in ((b"--under", self.under), (b"--not-under", self.not_under)):
+            if not all(prefixes):
+                raise OptionRefused(f"option {word.decode()} needs a word of 1 byte or more")
         flags = {
             b"-i": self.ignore_case,
             b"-F": self.literal,
@@ -126,6 +143,7 @@ class Query:
         # a byte 0 ends each name, so no name has to be guessed
         words = [b"find -Z", *[word for word, is_on in flags.items() if is_on]]
         words += [b"-n " + name for name in self.names] + [b"-N " + name for name in self.not_names]
+        words += [b"--under " + quote(one) for one in self.under] + [b"--not-under " + quote(one) for one in self.not_under]
         words += [b"%s %d" % (word, number) for word, number in ((b"-m", self.limit), (b"-C", self.context)) if number is not None]
         words += [b"--lane " + self.lane] if self.lane else []
         return b" ".join([*words, b"--", self.pattern]) + b"\n"

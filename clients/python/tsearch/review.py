@@ -25,7 +25,7 @@ from .folder import called, text_body
 from .git import FILE_KINDS, Entry, Store, reason_of
 from .names import quote, to_bytes
 from .paths import check, under
-from .query import Options, Query, escape
+from .query import Options, Query
 from .session import Session
 from .tgrep import ere
 
@@ -267,17 +267,19 @@ def prefix_of_its_own() -> bytes:
 
 
 def query_in(prefix: bytes, asked: Query) -> Query:
-    """The query in a review. Its limit is left out: it is for the lines of both sides. So are its patterns of paths: they are for files,
-    which may have two."""
-    return dataclasses.replace(asked, names=(b"^" + escape(quote(prefix)),), not_names=(), limit=None, spans=not asked.invert)
+    """The query in a review. Its limit is left out: it is for the lines of both sides. So is what it says of paths: that is for files, which
+    may have two."""
+    return dataclasses.replace(asked, names=(), not_names=(), under=(prefix,), not_under=(), limit=None, spans=not asked.invert)
 
 
 def wanted_by(asked: Query, files: Iterable[File]) -> Iterator[File]:
-    """The files that a query's patterns of paths ask for, by their paths after the patch if they have one. The program has to have taken
-    the patterns (`paths.check`)."""
+    """The files that a query asks for, by their paths after the patch if they have one. The program has to have taken the patterns
+    (`paths.check`)."""
     wanted, unwanted = ([ere.names(under(one, b"")).has for one in patterns] for patterns in (asked.names, asked.not_names))
     for file in files:
         name = quote(file.name)
+        if asked.under and not file.name.startswith(asked.under) or file.name.startswith(asked.not_under):
+            continue
         if file.lines and all(test(name) for test in wanted) and not any(test(name) for test in unwanted):
             yield file
 
@@ -333,8 +335,8 @@ class Review:
         return self._patch.before, self._patch.after
 
     def find(self, pattern: str | bytes, *, timeout: float | None = None, **options: Unpack[Options]) -> Found:
-        """The lines with a match. The options are those of `Session.find` that say what is found; `names` and `not_names` are for paths, and
-        `limit` for all lines together. The errors are those of `Session.find`."""
+        """The lines with a match. The options are those of `Session.find` that say what is found; those for names are for paths, and `limit`
+        for all lines together. The errors are those of `Session.find`."""
         asked = Query.of(pattern, **options)
         if asked.names or asked.not_names:
             self._session.find_query(dataclasses.replace(check(asked.names, asked.not_names), lane=asked.lane), timeout=timeout)

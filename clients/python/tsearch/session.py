@@ -575,6 +575,8 @@ class Session(Changes):
         invert: the lines that contain no match.
         names, not_names: a pattern, or up to 16. Only documents whose quoted names contain a match of each of `names`, and of none of
             `not_names`.
+        under, not_under: a prefix, or up to 4,096. Only documents whose names begin with one of `under`, if there are any, and with none
+            of `not_under`. They are texts of the names, no patterns; case counts in them, and they are not quoted.
         names_ignore_case: ASCII letters match both their cases in these.
         limit: at most so many lines, or names, from 1; the program stops once it has them, and `answer.more` says whether there are more.
 
@@ -589,9 +591,9 @@ class Session(Changes):
         counts: these names with the numbers of their lines, in `answer.counts()`.
         header_only: nothing but `answer.count` and `answer.more`.
 
-        `PatternRefused` for a pattern that cannot be read, `OptionRefused` for options that exclude each other, for numbers and lanes
-        out of their range and for over 16 name patterns of a kind, `TooSlow` after the time of `search_ms`, `SearchRefused` if the program has no
-        memory for it, `Error` if two searches were not of one version in 100 tries, and `Ended`.
+        `PatternRefused` for a pattern that cannot be read, `OptionRefused` for options that exclude each other, for numbers, lanes and
+        prefixes out of their range and for over 16 name patterns or 4,096 prefixes of a kind, `TooSlow` after the time of `search_ms`,
+        `SearchRefused` if the program has no memory for it, `Error` if two searches were not of one version in 100 tries, and `Ended`.
         """
         return self.find_query(Query.of(pattern, **options), timeout=timeout)
 

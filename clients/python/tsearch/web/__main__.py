@@ -78,18 +78,21 @@ def _served(given: argparse.Namespace, parser: argparse.ArgumentParser) -> tuple
 
 
 def _filters_of(request: web.Request, header: str) -> dict[str, Filter]:
-    """The filters in a header: {"REPOSITORY": {"names": [ERE..], "not_names": [ERE..]}, ..}. Without the header nothing is seen."""
+    """The filters in a header: {"REPOSITORY": {"names": [ERE..], "not_names": [ERE..], "under": [PATH..], "not_under": [PATH..]}, ..}.
+    Without the header nothing is seen."""
     try:
         found = json.loads(request.headers.get(header, "{}"))
-        return {name: Filter(_patterns_of(own, "names"), _patterns_of(own, "not_names")) for name, own in found.items()}
+        return {name: Filter(*(_texts_of(own, key) for key in Filter._fields)) for name, own in found.items()}
     except (ValueError, AttributeError):
         raise web.HTTPBadRequest(text=f"the header {header} is not understood") from None
 
 
-def _patterns_of(own: dict[str, object], key: str) -> tuple[str, ...]:
+def _texts_of(own: dict[str, object], key: str) -> tuple[str, ...]:
     found = own.get(key, [])
-    if own.keys() - {"names", "not_names"} or not isinstance(found, list) or not all(isinstance(one, str) for one in found):
+    if own.keys() - set(Filter._fields) or not isinstance(found, list) or not all(isinstance(one, str) for one in found):
         raise ValueError
+    if key.endswith("under") and not all(found):
+        raise ValueError  # a path is not empty
     return tuple(found)
 
 

@@ -45,10 +45,13 @@ _MOST_COMMITS = 64
 
 
 class Filter(NamedTuple):
-    """Which documents of a repository may be seen: those whose names match all of the one and none of the other patterns."""
+    """Which documents of a repository may be seen: those whose paths match all of the one and none of the other patterns, and begin with
+    one of `under`, if there are any, and with none of `not_under`."""
 
     names: tuple[str, ...] = ()
     not_names: tuple[str, ...] = ()
+    under: tuple[str, ...] = ()
+    not_under: tuple[str, ...] = ()
 
 
 class Gone(Error):
@@ -298,7 +301,9 @@ class Repository:
         """Whether a path may be seen. The lane is that of who asks."""
         if not any(own):
             return True
-        names, not_names = ([to_bytes(one) for one in patterns] for patterns in own)
+        names, not_names, among, not_among = (tuple(map(to_bytes, some)) for some in own)
+        if (among and not path.startswith(among)) or path.startswith(not_among):
+            return False
         await self.shared.find(dataclasses.replace(check(names, not_names), lane=lane))
         wanted, unwanted = ([ere.names(under(one, b"")).has for one in patterns] for patterns in (names, not_names))
         return all(test(quote(path)) for test in wanted) and not any(test(quote(path)) for test in unwanted)
@@ -354,8 +359,8 @@ class Files(Repository):
         return ""
 
     async def view(self, path: bytes, life: int, version: int, lane: bytes) -> Answer:
-        """All lines of a file as it was at the version of an answer, asked for in the lane of a visitor. `Gone` if it has changed and is not kept, or if the program was
-        started again since; otherwise the errors of `Shared.find`."""
+        """All lines of a file as it was at the version of an answer, asked for in the lane of a visitor. `Gone` if it has changed and is not
+        kept, or if the program was started again since; otherwise the errors of `Shared.find`."""
         await self._settled()
         name, history = self._start + path, self._history
         if life == self._life:
@@ -469,8 +474,9 @@ class Objects(Repository):
         return text_body(found) if isinstance(found, bytes) else found
 
     async def commit(self, name: str) -> str:
-        """The commit of a revision that is served, or of what leads to one. `Gone` if there is none."""
-        found = self.revisions.get(name) or (await asyncio.to_thread(self.store.commits, [name]) if not set(name) & set("*?[") else {}).get(name, "")
+        """The commit of a revision that is served, or of what leads to one. `Gone` if there is none, and for a name with a pattern, with which
+        git would look through all messages."""
+        found = self.revisions.get(name) or (await asyncio.to_thread(self.store.commits, [name]) if not set(name) & set("*?[{") else {}).get(name, "")
         if not found or not await self._is_served(found):
             raise Gone(f"{name} is no commit that is served")
         return found

@@ -8,16 +8,16 @@ import collections
 import dataclasses
 import re
 import time
-from collections.abc import Awaitable, Callable, Coroutine, Iterable, Iterator, Sequence
+from collections.abc import Awaitable, Callable, Coroutine, Iterator, Sequence
 from typing import Any, NamedTuple
 
 from ..answers import Answer
 from ..core import TOO_LONG
-from ..errors import Error, PatternRefused, SearchRefused, TooSlow
+from ..errors import Error, SearchRefused, TooSlow
 from ..merging import parted
 from ..names import quote, to_bytes
 from ..paths import check, under
-from ..query import MAX_PATTERN, Query, escape
+from ..query import MAX_PREFIXES, Query
 from .marks import marks_of
 from .repositories import Filter, Found, Repository, Shared
 
@@ -25,8 +25,6 @@ from .repositories import Filter, Found, Repository, Shared
 GRACE = 1.0
 # So many searches for one repository each are at work for a visitor at a time.
 _AT_ONCE = 4
-# So many patterns of names a search has.
-_MOST_PATTERNS = 16
 _ANY_START = b"[^:]*:[^:]*:"
 _COUNT = re.compile(rb"^(\d+:[^:\0\n]*:)[^\0\n]*\0(\d+)$", re.MULTILINE)
 
@@ -94,18 +92,19 @@ class Search:
                 self._outcomes[part.at] = _error_of(fault)
             return
         left = []
-        for some in _fitting(parts):
+        for some in _fitting(query, parts):
             left += await self._together(query, some, together) if len(some) > 1 else some
         await _all([self._alone(query, part, alone) for part in sorted(left, key=lambda part: part.repository.kept.totals)])
 
     async def _checked(self, own: Filter) -> Query:
-        """The query with the patterns of paths of the visitor and of the host. `PatternRefused` with the number among all of them."""
+        """The query with what the visitor and the host say of paths. `PatternRefused` with the number among all their patterns."""
         names = (*self._query.names, *map(to_bytes, own.names))
         not_names = (*self._query.not_names, *map(to_bytes, own.not_names))
         if names or not_names:
             async with asyncio.timeout_at(self._end):
                 await self._shared.find(dataclasses.replace(check(names, not_names), lane=self._query.lane))
-        return dataclasses.replace(self._query, names=names, not_names=not_names) if any(own) else self._query
+        among, not_among = (tuple(map(to_bytes, some)) for some in (own.under, own.not_under))
+        return dataclasses.replace(self._query, names=names, not_names=not_names, under=among, not_under=not_among)
 
     async def _together(self, query: Query, parts: list[_Part], ask: _Together) -> list[_Part]:
         """Asks several at once, and gives those that have to be asked again."""
@@ -134,16 +133,11 @@ class Search:
 
     async def _ask(self, query: Query, parts: Sequence[_Part]) -> Answer:
         sent = _in(query, parts)
-        try:
-            if self._marks and query.spans:
-                answer = await self._shared.find(dataclasses.replace(sent, spans=False))
-                if self._marks.can_mark(answer.data):
-                    return answer
-            return await self._shared.find(sent)
-        except PatternRefused as fault:
-            # the pattern of the repositories is behind those of the visitor and of the host
-            number = fault.number - (fault.number > len(query.names) < _MOST_PATTERNS)
-            raise PatternRefused(fault.reason, fault.offset, number, fault.pattern) from None
+        if self._marks and query.spans:
+            answer = await self._shared.find(dataclasses.replace(sent, spans=False))
+            if self._marks.can_mark(answer.data):
+                return answer
+        return await self._shared.find(sent)
 
     async def _find_together(self, query: Query, parts: list[_Part]) -> list[_Part]:
         began = time.monotonic()
@@ -209,39 +203,14 @@ def _error_of(fault: Exception) -> Error:
 
 
 def _in(query: Query, parts: Sequence[_Part]) -> Query:
-    """The query in these alone. What the session can do for the beginnings of names has its place here."""
-    start = _starts(parts)
-    names = [under(one, _ANY_START) for one in query.names]
-    if len(names) < _MOST_PATTERNS:
-        names.append(b"^" + start)
-    else:
-        names[0] = under(query.names[0], start)
-    return dataclasses.replace(query, names=tuple(names), not_names=tuple(under(one, _ANY_START) for one in query.not_names))
+    """The query in these alone: what it says of paths is said of the names of their documents."""
+    names, not_names = (tuple(under(one, _ANY_START) for one in patterns) for patterns in (query.names, query.not_names))
+    among, not_among = (tuple(part.start + path for part in parts for path in paths) for paths in (query.under or (b"",), query.not_under))
+    return dataclasses.replace(query, names=names, not_names=not_names, under=among, not_under=not_among)
 
 
-def _starts(parts: Iterable[_Part]) -> bytes:
-    """The pattern of what the names of some documents begin with: those with one revision are named together."""
-    numbers = collections.defaultdict(list)
-    for part in parts:
-        number, _, rest = part.quoted.partition(b":")
-        numbers[rest].append(number)
-    ways = [b"(" + b"|".join(some) + b"):" + escape(rest) for rest, some in sorted(numbers.items())]
-    return b"(" + b"|".join(ways) + b")"
-
-
-def _fitting(parts: list[_Part]) -> Iterator[list[_Part]]:
-    """The parts, so many together as one pattern takes."""
-    some: list[_Part] = []
-    length, rests = 3, set[bytes]()
-    for part in sorted(parts, key=lambda part: part.quoted.partition(b":")[2]):
-        number, _, rest = part.quoted.partition(b":")
-        longer = len(number) + 1 + (0 if rest in rests else len(escape(rest)) + 4)
-        if some and length + longer > MAX_PATTERN:
-            yield some
-            some, length, rests = [], 3, set()
-            longer = len(number) + 5 + len(escape(rest))
-        some.append(part)
-        length += longer
-        rests.add(rest)
-    if some:
-        yield some
+def _fitting(query: Query, parts: list[_Part]) -> Iterator[list[_Part]]:
+    """The parts, so many together as one search takes."""
+    most = max(1, MAX_PREFIXES // max(1, len(query.under), len(query.not_under)))
+    for at in range(0, len(parts), most):
+        yield parts[at : at + most]

@@ -320,13 +320,13 @@ class Server:
     async def _check_site(self, request: web.Request, handler: Callable[[web.Request], Awaitable[web.StreamResponse]]) -> web.StreamResponse:
         """A page of another site may lead its own name to this machine, or ask from a browser here, and must not read or start anything. It
         may have a link to the page."""
-        host = urllib.parse.urlsplit(f"//{request.host}").netloc.rpartition("@")[2]
+        host = _host_of(f"//{request.host}").rpartition("@")[2]
         name = host if host.endswith("]") else host.rpartition(":")[0] or host
         if self._settings.hosts is not None and name not in self._settings.hosts:
             raise web.HTTPForbidden(text="this name is not served")
         is_link = request.path == "/" and request.method == "GET" and request.headers.get("Sec-Fetch-Mode") == "navigate"
         site, origin = request.headers.get("Sec-Fetch-Site"), request.headers.get("Origin")
-        is_other = site not in _OWN_SITE if site is not None else origin is not None and urllib.parse.urlsplit(origin).netloc != request.host
+        is_other = site not in _OWN_SITE if site is not None else origin is not None and _host_of(origin) != request.host
         if is_other and not is_link:
             raise web.HTTPForbidden(text="")
         return await handler(request)
@@ -634,7 +634,7 @@ async def _reviewed(repository: Objects, asked: Asked, words: dict[str, str], ow
     options = Options(
         ignore_case=query.ignore_case, literal=query.literal, whole_words=query.whole_words, whole_lines=query.whole_lines, invert=query.invert,
         names=(*query.names, *map(to_bytes, own.names)), not_names=(*query.not_names, *map(to_bytes, own.not_names)), limit=query.limit,
-        lane=lane,
+        under=own.under, not_under=own.not_under, lane=lane,
     )  # fmt: skip
     async with repository.review(commits[0], commits[1]) as review:
         found = await review.find(query.pattern, **options)
@@ -705,6 +705,14 @@ def _address_of(request: web.Request) -> str:
 def _lane_of(request: web.Request) -> bytes:
     """The lane of who asks: in the program, too, one with many searches holds up those of nobody else."""
     return _address_of(request).encode()[:_LONGEST_LANE] or b"-"
+
+
+def _host_of(address: str) -> str:
+    """The host and the port that an address names; nothing if it cannot be read."""
+    try:
+        return urllib.parse.urlsplit(address).netloc
+    except ValueError:
+        return ""
 
 
 def _has_left(request: web.Request) -> bool:
