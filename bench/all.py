@@ -39,6 +39,7 @@ def runs_over(small, large, more, headers):
         ("waits", trees),
         ("sessions", [headers]),
         ("cancels", [headers]),
+        ("prefixes", [small]),
         ("readers", [small]),
         ("cluster", [large]),
         ("growth", [large]),

@@ -23,7 +23,7 @@ sys.path.insert(0, str(TOP / "tests"))
 from editors.neovim import Neovim  # noqa: E402
 from terminal.trees import environment_in, run, stop_all  # noqa: E402
 
-PATTERNS = ["ListenAndServe", "return err", "func (s *", "sched_setaffinity", "[a-z]+Reader", "x.*y.*z", "import", "^type .* struct", "TODO|FIXME", "0x[0-9a-f]{8}"]
+PATTERNS = ["ListenAndServe", "return err", "func (s *", "sched_setaffinity", "[a-z]+Reader", "x.*y.*z", "import", "^type .* struct", "NOTE|BUG", "0x[0-9a-f]{8}"]
 LITERAL = "func (s *"
 LINES = 215
 WATCH = """

@@ -30,7 +30,7 @@ REPOSITORIES = 80
 BRANCHES = 10
 VISITORS = 100
 RARE = "sched_setaffinity"
-WORDS = ["sched_setaffinity", "malloc", "int main", "return NULL", "static inline", "strcmp\\(", "EAGAIN", "void \\*", "TODO", "while *\\(1\\)"]
+WORDS = ["sched_setaffinity", "malloc", "int main", "return NULL", "static inline", "strcmp\\(", "EAGAIN", "void \\*", "NOTE", "while *\\(1\\)"]
 HOSTILE = ["x([ab]|a([ab]{250}){15}c)*e", "(.*.*){100}=$"]
 
 

@@ -16,7 +16,7 @@ import corpus
 
 HOSTILE = rb"x(" + rb"([ab]{0,20}c?){3}" * 50 + rb"d$|[ab])*e"
 RARE = b"rare_word_of_the_bench"
-ORDINARY = [b"malloc", b"return NULL", b"static inline", b"server\\.[a-z]+port", b"TODO", b"while *\\(1\\)", b"[a-z]+_[a-z]+_cb\\(", b"EAGAIN"]
+ORDINARY = [b"malloc", b"return NULL", b"static inline", b"server\\.[a-z]+port", b"NOTE", b"while *\\(1\\)", b"[a-z]+_[a-z]+_cb\\(", b"EAGAIN"]
 TRIES = 400
 CLIENTS = 4
 SECONDS = 5
@@ -40,7 +40,10 @@ class Talk:
 
     def read(self):
         """Reads on. Appends the number and the lines of each answer that is there as a whole."""
-        self.text += self.session.process.stdout.read(1 << 20)
+        data = self.session.process.stdout.read(1 << 20)
+        if not data:
+            sys.exit("%s: the session has ended" % build.called())
+        self.text += data
         while b"\n" in self.text:
             head, _, rest = self.text.partition(b"\n")
             words = head.split()

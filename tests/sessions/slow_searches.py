@@ -34,6 +34,8 @@ SLOW_SEARCH = b"searchin ^slow " + SLOW + b"\n"
 # How many documents a long search goes through, of a MiB each. Readers that are idle share them.
 LONG_DOCUMENTS = 64
 REPLACEMENTS = 3_000
+# How many quick searches wait behind a slow one, and how many are answered before it at most.
+WAITING, MOST_BEFORE = 500, 10_000
 
 
 def slow_body(lines, length):
@@ -118,6 +120,21 @@ def slow_searches_are_stopped_for_later_ones():
                 else:
                     same("a quick search", words[6:], [b"new:1:hello", b"%d" % (version - len(documents) + 4)])
             session.end(0)
+
+
+def stopped_searches_go_on_beside_later_ones():
+    """In one lane a slow search has its turns, although others that nobody has begun wait all the time: they come faster than they are
+    answered. So it is answered before thousands of them are."""
+    quick = b"searchin ^a$ e.*z\n"
+    for readers in 1, 2:
+        with Session("--readers", str(readers)) as session:
+            session.send(put(b"slow", slow_body(2, 16_000)) + put(b"a", b"some text\n" * 3_000) + b"publish\n" + SLOW_SEARCH + quick * WAITING)
+            for _ in range(MOST_BEFORE):
+                if session.read_entry().startswith(b"search 1 "):
+                    break
+                session.send(quick)
+            else:
+                raise Wrong(f"{MOST_BEFORE} later searches are answered before a slow one, with {readers} readers")
 
 
 def lanes_are_served_one_after_the_other():
@@ -313,6 +330,7 @@ WITH_READERS = [
 ONCE = [
     items_are_taken_while_every_reader_is_at_work,
     slow_searches_are_stopped_for_later_ones,
+    stopped_searches_go_on_beside_later_ones,
     lanes_are_served_one_after_the_other,
     times_are_shown,
     stars_at_the_front_go_by_the_engine,
