@@ -250,7 +250,7 @@ def bodies_behind_a_sync(start):
 
 def few_items_behind_a_sync_are_read():
     """While a search is at work, a session reads at most 16 items ahead: a sync behind the search, and 15 puts."""
-    documents = b"".join(put(b"slow%d" % number, slow_body(60, 16_000)) for number in range(4)) + b"publish\n"
+    documents = b"".join(put(b"slow%d" % number, slow_body(60, 16_000)) for number in range(20)) + b"publish\n"
     text = put(b"a", b"x" * (MEBIBYTE - 1))
     with Session("--readers", "1") as session:
         session.send(documents + b"searchin ^slow " + SLOW + b"\nsync\n")
