@@ -19,7 +19,9 @@ class Finds(Place):
         source = random.Random(seed)
         model = Model(seed)
         for _ in range(count):
-            pattern, options = source.choice(model.PATTERNS), model.options(source)
+            # a request has globs in place of prefixes
+            options = {key: given for key, given in model.options(source).items() if key not in ("under", "not_under")}
+            pattern = source.choice(model.PATTERNS)
             with self.subTest(pattern=pattern, options=options):
                 count, more, rows = found_in(documents, pattern, **options)
                 self.assertEqual(shown_by(warm, pattern, **options), (count, more, [row for row in rows if row]))
