@@ -798,10 +798,10 @@ def documents_that_wait_for_a_publish(runs):
             yield f"bytes of 20 documents with {length} lines that are {what}", many - few, least, least + 20 * 400
 
 
-def text_of_many_trigrams(lines):
+def text_of_many_trigrams(lines, letters=range(33, 127)):
     """Lines of nine letters, each of which has some seven trigrams of its own."""
     chance = random.Random(1)
-    return b"".join(bytes(chance.choices(range(33, 127), k=9)) + b"\n" for _ in range(lines))
+    return b"".join(bytes(chance.choices(letters, k=9)) + b"\n" for _ in range(lines))
 
 
 def trigrams_that_one_document_has(runs):
@@ -847,10 +847,10 @@ def much_that_goes_takes_no_longer_than_new_documents(runs):
 
 
 def pages_of_a_document_that_comes_and_goes(runs):
-    """A document of some 3,000 trigrams that comes and goes beside a larger one takes its pages once. (Where it is most of what there is,
-    the sets are filled anew without it.)"""
+    """A document of some 3,000 trigrams that comes and goes beside one of more trigrams takes its pages once. (Where it has most of all
+    trigrams, the sets are filled anew without it.)"""
     once = put(b"a", text_of_many_trigrams(440)) + b"publish\nremove a\npublish\n"
-    other = put(b"b", b"some text\n" * 4_000) + b"publish\n"
+    other = put(b"b", text_of_many_trigrams(2_000, range(128, 256))) + b"publish\n"
     few, many = (runs.memory(SESSION, other + once * times).requests for times in (10, 110))
     yield "requests for 100 times that a document comes and goes", many - few, 0, 100 * 60
 
