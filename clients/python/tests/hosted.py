@@ -29,7 +29,7 @@ class Hosted(Browsing):
     def serve(cls):
         top = pathlib.Path(cls.enterClassContext(tempfile.TemporaryDirectory()))
         cls.made = Made(top / "made.git")
-        cls.first = cls.made.commit("main", FILES | {b"slow/%d" % number: b"xab" * 5_000 + b"\n" for number in range(200)})
+        cls.first = cls.made.commit("main", FILES | {b"slow/%d" % number: b"xab" * 5_000 + b"\n" for number in range(1_000)})
         cls.made.commit("topic/x", {b"src/util.c": b"int call(int x)\n{\n    int more;\n    return x + more;\n}\n", b"src/new.c": b"int more;\n"}, start="main")
         cls.other = Made(top / "other.git")
         cls.other.commit("main", {b"many.txt": FILES[b"many.txt"], b"few.txt": b"int few;\n"})
