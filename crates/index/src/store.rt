@@ -123,8 +123,8 @@ impl Store {
             self.held_bytes -= occupant.held.body().as_bytes().len() as u64;
             self.count -= 1;
             self.trigram_bytes = less_by(self.trigram_bytes, &occupant.held);
-            let is_long = self.work_of(number, occupant.held.trigrams()) > SHORT;
-            self.sets.take_out(number, occupant.held, later & is_long);
+            let waits = self.is_long(later, number, occupant.held.trigrams());
+            self.sets.take_out(number, occupant.held, waits);
             compact(&mut self.slots, self.count);
             give_back(&mut self.slots);
         }
@@ -143,6 +143,11 @@ impl Store {
     /// What it takes to change the sets of these trigrams for the document with this number.
     fn work_of(&self, number: u32, trigrams: &Trigrams) -> usize {
         self.sets.postings.work(trigrams, self.share(number))
+    }
+
+    /// Whether it is too much for one piece to take this number out of the sets of these trigrams, if that is asked.
+    fn is_long(&self, is_asked: bool, number: u32, trigrams: &Trigrams) -> bool {
+        is_asked && self.work_of(number, trigrams) > SHORT
     }
 
     /// Which part of a set is passed to take out this number, in parts of `WHOLE`, as if each set had as many below it.

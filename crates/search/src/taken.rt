@@ -43,7 +43,7 @@ pub struct Taken<'p> {
 
 /// Takes out of the index what a search needs: the documents whose trigrams meet the condition of the pattern. If the
 /// names that are asked for begin with a text, as for the name pattern `^src/`, or with one of some prefixes, only the
-/// documents under these are taken, and the others cost nothing. No other name and no line is looked at.
+/// documents under these are taken. No other name and no line is looked at.
 ///
 /// An `Err` means that memory ran out, or that a name or a body has too many handles.
 pub fn take<'p>(
