@@ -19,7 +19,7 @@ if __name__ == "__main__":
     if top in ("-h", "--help"):
         sys.exit(print(__doc__))
     if not os.path.isdir(top):
-        sys.exit(f"{top} is no folder")
+        sys.exit(f"{top} is not a folder")
     with tsearch.Session(messages=lambda text: os.write(2, text)) as session:
         folder = tsearch.Folder(session, top)
         while os.write(1, b"> ") and (typed := sys.stdin.buffer.readline().rstrip(b"\n")):

@@ -34,6 +34,8 @@ SLOW_SEARCH = b"searchin ^slow " + SLOW + b"\n"
 # How many documents a long search goes through, of a MiB each. Readers that are idle share them.
 LONG_DOCUMENTS = 64
 REPLACEMENTS = 3_000
+# How many seconds a session takes at most to end once nobody reads and nothing more comes.
+SECONDS_TO_END = 6
 # How many quick searches wait behind a slow one, and how many are answered before it at most.
 WAITING, MOST_BEFORE = 500, 10_000
 
@@ -70,9 +72,9 @@ def texts_come_beside_a_long_search(start):
         session.ask(b"search (\n", b"search 12 refused: group not closed at 0\n")
         session.ask(b"remove b\n", REFUSED % (line + 1, b"no such file"))
         session.ask(b"load b nothing/here\n", REFUSED % (line + 2, b"cannot load"))
-        # the session goes on to wait for the answer
-        session.ask(b"put b\n", REFUSED % (line + 3, b"bad put"))
         session.expect_quiet()
+        # the session goes on to wait for the answer, whose text may begin from here on
+        session.ask(b"put b\n", REFUSED % (line + 3, b"bad put"))
 
 
 def loads_and_removes_are_seen_beside_a_long_search(start):
@@ -211,6 +213,54 @@ def nobody_reads_while_a_long_search_is_at_work(start):
         session.end(2, close=False)
 
 
+def client_that_is_gone_while_long_searches_are_at_work(start):
+    """Once both the input and the output are closed, at once or one after the other, the searches are given up, also if others wait
+    behind a sync."""
+    for items in SLOW_SEARCH, SLOW_SEARCH * 20, SLOW_SEARCH + b"sync\nwhat\n" + SLOW_SEARCH:
+        for between in 0, 0.4:
+            with start() as session:
+                session.send(LONG + b"what\n" + items)
+                session.expect(REFUSED % (AFTER_LONG, b"bad line"))
+                # what is left of the items is taken
+                time.sleep(0.2)
+                session.process.stdin.close()
+                time.sleep(between)
+                session.process.stdout.close()
+                began = time.monotonic()
+                session.end(2, close=False)
+                seconds = time.monotonic() - began
+                if seconds > SECONDS_TO_END:
+                    raise Wrong(f"it took {seconds:.1f} seconds to end, {between} between the input and the output")
+
+
+def output_that_fails_after_the_end_of_the_input(start):
+    """The same with an output that is full."""
+    with open("/dev/full", "wb") as full, start(output=full) as session:
+        session.send(LONG + SLOW_SEARCH)
+        session.end(2, b"tsearch: cannot write\n")
+
+
+def texts_begin_before_their_searches_end(start):
+    """While a search takes long after the end of the input, its text is begun, byte by byte. Nothing comes twice, and nothing is missing."""
+    documents = put(b"slow", slow_body(12, 16_000)) + b"publish\n"
+    with start() as session:
+        session.send(documents + SLOW_SEARCH)
+        session.process.stdin.close()
+        first = session.read()
+        rest = b"".join(iter(session.read, b""))
+        same("the text", first + rest, b"search 1 version 1 lines 1\nslow:13:end\n")
+        same("what came first", first, b"s")
+        session.end(0)
+    with start() as session:
+        session.send(documents + SLOW_SEARCH + b"search h\n" + SLOW_SEARCH + b"sync\n" + SLOW_SEARCH + b"what\n" + SLOW_SEARCH)
+        session.process.stdin.close()
+        line = documents.count(b"\n") + 6
+        found = b"search %d version 1 lines 1\nslow:13:end\n"
+        for wanted in (found % 1, b"search 2 version 1 lines 0\n", found % 3), (REFUSED % (line, b"bad line"), found % 4, found % 5):
+            entries_in_any_order(session, wanted)
+        session.end(2)
+
+
 def output_that_fails_while_the_input_is_open():
     """The same with an output that is full, while a search is at work, and while there is none."""
     for readers, before in ("0", b""), ("2", b""), ("2", LONG + SLOW_SEARCH), ("16", LONG + SLOW_SEARCH):
@@ -321,6 +371,9 @@ WITH_READERS = [
     loads_and_removes_are_seen_beside_a_long_search,
     replacements_beside_a_long_search_leave_memory_level,
     nobody_reads_while_a_long_search_is_at_work,
+    client_that_is_gone_while_long_searches_are_at_work,
+    output_that_fails_after_the_end_of_the_input,
+    texts_begin_before_their_searches_end,
     sync_waits_for_a_slow_search,
     many_items_wait_behind_a_sync,
     input_that_ends_with_searches_open,

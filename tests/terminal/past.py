@@ -128,6 +128,17 @@ def finds_in_what_has_changed(folder, environment):
     with_foo = [name for name in names if b"foo" in open(os.path.join(os.fsencode(top), name.strip(b'"')), "rb").read()]
     expect((found[0], found[1].split(b"\n")[:-1]), (0, sorted([*with_foo, b"untracked.c"])), "since v1")
     expect(run(["--changed=v1", "foo", "new.c"], f"{top}/src", environment), (0, b"1:foo new\n2:foo again\n"), "a file")
+    # a link is not followed, to whatever it leads
+    write(folder, {"outside": b"foo outside\n"})
+    os.symlink("../outside", f"{top}/link")
+    write(top, {"..x": b"foo dots\n"})
+    expect(run(["--changed", "-c", "foo", ".", "..x"], f"{top}", environment), (0, b"./..x:1\n./a.c:4\n./untracked.c:1\n..x:1\n"), "links")
+    expect(run(["--changed", "foo", "../..x"], f"{top}/src", environment), (0, b"1:foo dots\n"), "a name that begins with two dots")
+    # each call has had a session of its own, which has ended with it
+    status = run(["--status"], top, environment)[1].decode()
+    with open("/proc/{0}/task/{0}/children".format(re.search(r"process: *(\d+)", status)[1]), encoding="ascii") as file:
+        expect((len(file.read().split()), 0), (1, 0), "the programs of the server")
+    os.unlink(f"{top}/..x")
     os.unlink(f"{top}/a.c")
     expect(run(["--changed", "-c", "foo"], top, environment), (0, b"untracked.c:1\n"), "a file that is gone")
     expect(run(["--changed=none", "foo"], top, environment), (2, b""), "no commit")
@@ -162,6 +173,8 @@ def finds_in_a_patch(folder, environment):
     expect(run(["--diff", "v1..", "-c", "foo", "."], f"{top}/src", environment), (0, b"./a.c:-1 +1 1\n./gone.c:-1 +0 0\n./new.c:-0 +2 0\n"), "counts")
     expect(run(["--diff", "v1..", "-l", "foo", "lib", "src/a.c"], top, environment), (0, b"lib/moved.c\nsrc/a.c\n"), "paths")
     expect(run(["--diff", "v1..", "--limit", "1", "-g", "new*", "foo"], top, environment), (0, b"src/new.c::1:+foo new\n"), "a glob and a limit")
+    expect(run(["--diff", "v1..", "--limit", "2", "-l", "int|foo"], top, environment), (0, b"b c/sp ace.txt\nlib/moved.c\n"), "a limit of names")
+    expect(run(["--diff", "v1..", "-m", "1", "foo"], top, environment), (0, b"b c/sp ace.txt:1:1: foo in a space\nlib/moved.c:4:3: int foo;\nsrc/a.c:2::-two foo\nsrc/gone.c:1::-foo gone\nsrc/new.c::1:+foo new\n"), "so many of each")
     expect(run(["--diff", "v1..", "--json", "gone"], top, environment), (0, b'{"type":"line","sign":"-","before":{"path":"src/gone.c","line":1},"text":"foo gone","spans":[[4,8]]}\n'), "JSON")
     expect(run(["--diff", "v1..", "--color=always", "gone"], top, environment)[1:2], (b"\x1b[0m\x1b[35msrc/gone.c\x1b[0m:\x1b[0m\x1b[32m1\x1b[0m::-foo \x1b[0m\x1b[1m\x1b[31mgone\x1b[0m\n",), "colours")
     for words in (["--diff", "v1", "x"], ["--diff", "v1..", "-C1", "x"], ["--diff", "none..", "x"], ["--diff", "v1..", "("], ["--diff", "v1..", "--at", "v1", "x"]):

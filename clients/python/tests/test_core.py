@@ -85,6 +85,10 @@ class Sending(unittest.TestCase):
                 self.assertEqual((raised.exception.reason, raised.exception.name), (reason, name))
         for path in b"", b"a\nb", b"a\0":
             self.assertRaises(ChangeRefused, core.load, "a", path)
+        self.assertEqual(str(ChangeRefused("name empty", b"")), "name empty")
+        # a number is neither a text nor as many bytes 0
+        for call in (lambda: core.put(3, b""), lambda: core.remove(3), lambda: core.find(Query.of(3))):
+            self.assertRaises(TypeError, call)
         # nothing of that was counted
         search, parts = core.find(Query.of("x"))
         self.assertEqual((search.number, search.line, parts), (1, 1, [b"find -Z -- x\n"]))

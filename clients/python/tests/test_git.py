@@ -109,6 +109,31 @@ class Revisions(unittest.TestCase):
             self.assertEqual(refreshed.removed, 0 if is_dropped else len(FILES) - 1)
             self.expect(named(made, "main"))
 
+    def test_a_commit_that_git_has_dropped(self) -> None:
+        """What the one after it has no longer goes all the same."""
+        made = self.made
+        made.commit("main", FILES)
+        revisions = git.Revisions(self.session, made.path, ["main"])
+        revisions.refresh()
+        made.commit("main", {b"src/main.c": b"int anew;\n"}, start=None)
+        made.git("reflog", "expire", "--expire=now", "--all")
+        made.git("gc", "-q", "--prune=now")
+        self.assertEqual(revisions.refresh()[:2], (1, len(FILES) - 1))
+        self.expect(named(made, "main"))
+
+    def test_totals(self) -> None:
+        """How many there are, and their bytes, however often they change: those of the session."""
+        made = self.made
+        revisions = git.Revisions(self.session, made.path, ["main", "topic"])
+        made.commit("topic", {b"README": b"five\n"})
+        for changed in FILES, {b"README": b"longer than it was before\n"}, {b"README": b"short\n", b"new": b"new\n"}, {b"src/util.c": None}, {b"new": b"\0"}:
+            made.commit("main", changed)
+            revisions.refresh()
+            bodies = [body for body in named(made, "main", "topic").values() if body != b"\0"]
+            status = self.session.status()
+            self.assertEqual(revisions._objects.totals, (len(bodies), sum(map(len, bodies))), changed)
+            self.assertEqual((status.documents, status.bytes), revisions._objects.totals)
+
     def test_a_push_by_force(self) -> None:
         """From a clone, into the repository that is served."""
         made = self.made
@@ -235,6 +260,14 @@ class Revisions(unittest.TestCase):
             self.assertEqual((revisions.refresh().removed, accepted() - before), (len(made.files[branch]), count))
             self.assertEqual(revisions._objects.totals[0], self.session.status().documents)
         self.expect(named(made, "main2"))
+        # so many are one change, and one more are each by itself
+        for number, count in (64, 1), (65, 65):
+            many = {b"many/%d.c" % at: b"int a;\n" for at in range(number)}
+            made.commit("main2", many)
+            revisions.refresh()
+            made.commit("main2", dict.fromkeys(many))
+            before = accepted()
+            self.assertEqual((revisions.refresh().removed, accepted() - before), (number, count))
         # all of it is another's
         made.commit("main2", {b"only": b"int only;\n"}, start=None)
         before = accepted()
@@ -268,6 +301,14 @@ class Revisions(unittest.TestCase):
                 git.Revisions(session, path, [revision]).refresh()
                 documents = {revision.encode() + b":" + name: body for name, body in FILES.items()}
                 self.assertEqual([hit[:3] for hit in session.find("")], [row[:3] for row in found_in(documents, "")[2]])
+        # what is committed in one of the working trees is seen in the other, though nothing changes in the folder of that one alone
+        revisions = git.Revisions(self.session, self.top / "beside", ["main"])
+        time.sleep(2 * tsearch.folder.TICK / 1e9)
+        revisions.refresh()
+        self.assertEqual(revisions.refresh()[:2], (0, 0))
+        tree.commit("main", {b"README": b"committed\n"})
+        self.assertEqual(revisions.refresh()[:2], (1, 0))
+        self.expect(named(tree, "main"))
         for path in self.top, self.top / "none", self.top / "tree/.git/refs":
             with self.assertRaises(git.NoRepository):
                 git.Revisions(self.session, path)

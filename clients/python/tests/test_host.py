@@ -80,24 +80,27 @@ class Repositories(Host):
         self.assertEqual(self.view(server, before, "src/new.c")[1], {"refused": "there is no such file"})
         for commit in hidden, hidden[:12], "hidden", "HEAD~9", "0" * 40, "--all", now + "^{tree}", made.git("rev-parse", "main:src/main.c"):
             status, told = self.view(server, commit, "src/main.c")
-            self.assertEqual((status, told["refused"]), (410, "this commit is not served, or no longer"), commit)
+            self.assertEqual((status, told["refused"]), (410, "this commit is not, or no longer, served"), commit)
         review = lambda one, other: server.lines("/api/review", repository="made", before=one, after=other, q="int")  # noqa: E731
         self.assertEqual(review(before, "main")[-1]["added"], 1)
-        self.assertEqual(review(before, "hidden"), [{"refused": "hidden is no commit that is served"}])
-        self.assertEqual(review("", "main")[0]["refused"], " is no commit that is served")
-        self.assertEqual(review("main^{/new}", "main")[0]["refused"], "main^{/new} is no commit that is served")
-        self.assertEqual(review("main^{/}", "main")[0]["refused"], "main^{/} is no commit that is served")
-        # history that is written anew
+        self.assertEqual(review(before, "hidden"), [{"refused": "hidden is not a commit that is served"}])
+        self.assertEqual(review("", "main")[0]["refused"], " is not a commit that is served")
+        self.assertEqual(review("main^{/new}", "main")[0]["refused"], "main^{/new} is not a commit that is served")
+        self.assertEqual(review("main^{/}", "main")[0]["refused"], "main^{/} is not a commit that is served")
+        # history that is written anew: also of a commit that nobody has looked at
+        later = made.commit("main", {b"src/later.c": b"int later;\n"})
+        until(lambda: server.hits("int later"))
         made.commit("main", {b"only": b"int only;\n"}, start=None)
         until(lambda: server.hits("int only"))
         self.assertEqual(self.view(server, now, "src/new.c")[1]["lines"], ["int new;"])
-        self.assertEqual(server.find("x", revision="hidden"), [{"refused": "there is no hidden"}])
+        self.assertEqual(self.view(server, later, "src/later.c")[1]["lines"], ["int later;"])
+        self.assertEqual(server.find("x", revision="hidden"), [{"refused": "there is no revision hidden"}])
 
     def test_filters(self) -> None:
         """Of the host, in searches, counts, files and reviews."""
         made = self.made
         other = made.commit("topic", {b"secret/key.c": b"int other;\n", b"src/util.c": b"int other;\n"}, start="main")
-        server = self.serve("--revisions", "main", "--revisions", "topic", "--filter-header", "X-Filters", str(made.path))
+        server = self.serve("--revisions", "main", "--revisions", "topic", "--revisions", "mov*", "--filter-header", "X-Filters", str(made.path))
         server.headers = {"X-Filters": json.dumps({"made": {"not_names": ["^secret/"]}})}
         names = lambda **words: [row["name"] for row in server.find("int", **words) if "hits" in row]  # noqa: E731
         self.assertEqual(names(), ["caf\ufffd x", "src/main.c", "src/util.c"])
@@ -108,12 +111,29 @@ class Repositories(Host):
         self.assertEqual(self.view(server, other, "src/util.c")[0], 200)
         rows = server.lines("/api/review", repository="made", before="main", after="topic", q="int")
         self.assertEqual([row["after"]["name"] for row in rows if "hits" in row], ["src/util.c"])
+        # what was where nothing is seen is new
+        made.commit("moved", {b"secret/key.c": None, b"src/key.c": FILES[b"secret/key.c"]}, start="main")
+        until(lambda: server.hits("int key", revision="moved"))
+        place = {"name": "src/key.c", "id": "src/key.c"}
+        whole = {"before": {"name": "secret/key.c", "id": "secret/key.c"}, "after": place, "hits": [{"sign": " ", "before": 1, "after": 1, "parts": ["", "int", " key;"]}]}
+        seen = {"after": place, "hits": [{"sign": "+", "after": 1, "parts": ["", "int", " key;"]}]}
+        for own, row in ({}, whole), ({"not_names": ["secret/"]}, seen), ({"not_under": ["secret/"]}, seen), ({"under": ["src/"]}, seen), ({"names": ["^src/"]}, seen):
+            server.headers = {"X-Filters": json.dumps({"made": own})}
+            rows = server.lines("/api/review", repository="made", before="main", after="moved", q="int")
+            self.assertEqual([one for one in rows if "hits" in one], [row], own)
         for own in {"not_under": ["secret/"]}, {"under": ["src/", "caf"]}:
             server.headers = {"X-Filters": json.dumps({"made": own})}
             self.assertEqual(names(), ["caf\ufffd x", "src/main.c", "src/util.c"])
             self.assertEqual(self.view(server, self.first, "secret/key.c")[0], 410)
             rows = server.lines("/api/review", repository="made", before="main", after="topic", q="int")
             self.assertEqual([row["after"]["name"] for row in rows if "hits" in row], ["src/util.c"])
+        server.headers = {"X-Filters": json.dumps({"made": {}})}
+        rows = server.lines("/api/review", repository="made", before="main", after="topic", q="int", max=2)
+        self.assertEqual((sum(len(row["hits"]) for row in rows if "hits" in row), rows[-1]["more"]), (2, True))
+        # the only one that is seen is taken where none is named, and for no other name
+        for name, status in ("", 200), ("made", 200), ("other", 400):
+            self.assertEqual(server.get(f"/api/file?repository={name}&commit={self.first}&name=src/main.c")[0], status, name)
+            self.assertEqual(server.get(f"/api/review?repository={name}&before=main&after=topic&q=int")[0], status, name)
         server.headers = {"X-Filters": json.dumps({"made": {"names": ["("]}})}
         for rows in server.find("int"), server.lines("/api/review", repository="made", before="main", after="topic", q="int"):
             self.assertEqual(rows, [{"refused": "group not closed", "offset": 0, "in": "host"}])
@@ -173,12 +193,12 @@ class Settings(Host):
         self.assertEqual(server.programs()[:1], program)
         change(second.replace(', "topic"', ""))
         until(lambda: [row[0] for row in server.hits("int other|int main")] == ["other"])
-        until(lambda: server.find("x", revision="topic") == [{"refused": "there is no topic"}])
+        until(lambda: server.find("x", revision="topic") == [{"refused": "there is no revision topic"}])
         until(lambda: [row[0] for row in server.hits("int other|int main")] == ["other"])
         # a file with a fault changes nothing, and is told
         for text, reason in {
-            "[[repository": "Expected", '[[repository]]\nname = "x"\n': "a path is needed", '[[repository]]\npath = "none"\n': "is no folder",
-            f'[[repository]]\npath = "{self.top}"\nrevisions = ["main"]\n': "is no git repository", second * 2: "two repositories are called other",
+            "[[repository": "Expected", '[[repository]]\nname = "x"\n': "a path is needed", '[[repository]]\npath = "none"\n': "is not a folder",
+            f'[[repository]]\npath = "{self.top}"\nrevisions = ["main"]\n': "is not a git repository", second * 2: "two repositories are called other",
             second + 'link = "javascript:x"\n': "a link is an address", "[limits]\n": "tables [[repository]] alone",
             '[[repository]]\npath = "made.git"\nname = "a:b"\n': "no colon", '[[repository]]\npath = "made.git"\ncolour = 1\n': "the keys are",
         }.items():  # fmt: skip

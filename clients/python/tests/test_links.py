@@ -96,7 +96,7 @@ class Links(Hosted):
         self.wait(self.is_open)
         self.assertEqual(self.words()["commit"], self.made.git("rev-parse", "topic/x"))
         self.one("#revision").send_keys("y")
-        self.wait(lambda: "there is no topic/xy" in self.one("#status").text)
+        self.wait(lambda: "there is no revision topic/xy" in self.one("#status").text)
 
     def test_a_review(self) -> None:
         self.one("#repositories label:nth-child(1)").click()
@@ -137,7 +137,7 @@ class Links(Hosted):
         self.one("#pattern").send_keys(f"int few|{SLOW}")
         self.wait(lambda: self.all("#results .missing") and [row[0] for row in self.shown()] == ["few.txt"])
         self.assertEqual(self.one("#results .missing").text, "made gives no answer: too slow after 2000 ms; try a narrower one.")
-        self.assertIn("No answer of made.", self.one("#status").text)
+        self.assertIn("No answer from made.", self.one("#status").text)
         self.one("#pattern").clear()
         os.kill(self.server.programs()[0], signal.SIGKILL)
         self.one("#pattern").send_keys("int call|int few")

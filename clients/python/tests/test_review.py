@@ -120,6 +120,15 @@ class Reviews(unittest.TestCase):
             with self.assertRaises(tsearch.PatternRefused) as refused:
                 review.find("x", names=["a b", "x y["])
             self.assertEqual((refused.exception.number, refused.exception.offset), (2, 3))
+            # what was where nothing is seen is new, and nothing of it is shown
+            for sees, wanted in (lambda path: path != b"moved.c", [("+", None, 3)]), (lambda path: path != b"lib/moved.c", [(" ", 3, 3)]):
+                files = review.find("k", names="^lib", sees=sees).files
+                self.assertEqual([(file.before, file.lines[2][:3]) for file in files], [(None if wanted[0][0] == "+" else b"moved.c", wanted[0])])
+        made.commit("back", {b"moved.c": None, b"lib/moved.c": b"k(x)\n" * 8 + b"new(w)\n"}, start="main")
+        with Review(self.session, made.path, "main", "back") as review:
+            wanted = [("+", None, at) for at in range(1, 10)]
+            self.assertEqual([line[:3] for line in review.find("", sees=lambda path: False).files[0].lines], wanted)
+            self.assertEqual(review.find("", sees=lambda path: True).count("-"), 1)
         with Review(self.session, made.path, "main", "topic", whole=True) as review:
             self.assertEqual(found_by(review, r"old\(")["same.c", "same.c"], [(" ", 1, 1, b"old(z)")])
 
@@ -143,8 +152,40 @@ class Reviews(unittest.TestCase):
             other.close()
             self.assertEqual(found_by(review, "one|two|three"), wanted)
         self.assertEqual(self.session.status().documents, 1)
-        with self.assertRaisesRegex(tsearch.Error, "main is no commit"):
+        with self.assertRaisesRegex(tsearch.Error, "main is not a commit"):
             Review(self.session, made.path, "main", "topic")
+
+    def test_paths_with_a_space(self) -> None:
+        """A pattern of paths is for names as a session writes them, and `under` for paths as they are."""
+        made = self.made
+        made.commit("main", {b"a b/x": b"one\n", b"a/x": b"one\n"})
+        made.commit("topic", {b"a b/x": b"two\n", b"a/x": b"two\n"}, start="main")
+        with Review(self.session, made.path, "main", "topic") as review:
+            for options in {"names": "^a%20b/"}, {"not_names": "^a/"}, {"under": "a b/"}, {"not_under": "a/"}, {"names": "%20", "under": "a"}:
+                self.assertEqual(list(found_by(review, "one", **options)), [("a b/x", "a b/x")], options)
+            self.assertEqual(list(found_by(review, "one", not_names="%20")), [("a/x", "a/x")])
+            self.assertEqual(list(found_by(review, "one", under="a%20b/")), [])
+
+    def test_a_prefix_that_others_have_too(self) -> None:
+        """At the end only what the review has put goes."""
+        made = self.made
+        made.commit("main", {b"a": b"one\n"})
+        made.commit("topic", {b"a": b"two\n"}, start="main")
+        self.session.put("mine:other", "stays\n")
+        self.session.publish()
+        with Review(self.session, made.path, "main", "topic", prefix="mine:") as review:
+            self.assertEqual(len(review.find("one|two").files), 1)
+            self.assertEqual(self.session.status().documents, 3)
+        self.assertEqual([hit.name for hit in self.session.find("")], [b"mine:other"])
+
+        async def run() -> None:
+            async with aio.Session.started() as session:
+                await session.put("mine:other", "stays\n")
+                async with await aio.Review.open(session, made.path, "main", "topic", prefix="mine:"):
+                    self.assertEqual((await session.status()).documents, 3)
+                self.assertEqual([hit.name for hit in await session.find("")], [b"mine:other"])
+
+        asyncio.run(run())
 
     def test_a_program_that_is_started_again(self) -> None:
         made = self.made

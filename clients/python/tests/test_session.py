@@ -268,6 +268,7 @@ class Refusals(unittest.TestCase):
 
     def test_of_changes(self) -> None:
         with tsearch.Session(max_commands=3, max_line=None) as session:
+            self.assertRaises(TypeError, session.put, "a", 5)
             changes = [session.put("a", "x"), session.put("b", b"\0"), session.put("c", "y" * 16_385), session.remove("d")]
             session.status(SECONDS)
             published = session.publish()

@@ -16,7 +16,7 @@ import tempfile
 import unittest
 import unittest.mock
 
-from helpers import SECONDS, Model, until
+from helpers import SECONDS, SLOW, Model, slow_documents, until
 from made import Made
 from serving import Server, serving_in
 from test_host import NO_REASON, REASON, Host
@@ -190,7 +190,9 @@ class Parts(unittest.TestCase):
                 wanted = {start + path for start in starts for path in paths}
                 wanted |= {name for part in parts for name in [b"1" + part.start + b"a"] if name[:-1] in starts and b"a:b" in paths}
                 self.assertEqual(set(found), wanted)
-        self.assertEqual(len(list(_fitting(dataclasses.replace(query, under=(b"a",) * 4_096), parts))), 2_000)
+        for word in "under", "not_under":
+            for count, searches in (2, 1), (3, 2), (4_096, 2_000):
+                self.assertEqual(len(list(_fitting(dataclasses.replace(query, **{word: (b"a",) * count}), parts))), searches, (word, count))
 
 
 class Marking(unittest.TestCase):
@@ -426,7 +428,7 @@ class Sharing(unittest.IsolatedAsyncioTestCase):
             with self.assertRaises(Unread):
                 await files.found(dataclasses.replace(answer, life=life, version=version), *files.start(""))
 
-    async def searched(self, texts: dict[str, str], most: int, **options: object) -> tuple[dict[str, object], dict[str, object]]:
+    async def searched(self, texts: dict[str, str], most: int, milliseconds: int = 60_000, **options: object) -> tuple[dict[str, object], dict[str, object]]:
         """What a search for x answers in folders with a text each: how many lines, or why there are none; and how many there are in all."""
         from tsearch.web.repositories import Files, Filter, Served, Shared
         from tsearch.web.searching import Search
@@ -439,7 +441,7 @@ class Sharing(unittest.IsolatedAsyncioTestCase):
             chosen.append((Files(Served(name, os.fsencode(self.top / name)), shared), Filter()))
             await chosen[-1][0]._look(self.fail)
         query = Query.of(**{"pattern": "x", "context": 0, "limit": 101, "spans": True, **options})
-        search = lambda: Search(shared, chosen, query, "", 60_000, most)  # noqa: E731
+        search = lambda: Search(shared, chosen, query, "", milliseconds, most)  # noqa: E731
         found = [getattr(one, "answer", one) for one in await search().find()]
         lines = [[(hit.text, hit.spans and len(hit.spans)) for hit in one] if isinstance(one, Answer) else str(one) for one in found]
         return dict(zip(texts, lines)), dict(zip(texts, await search().count()))
@@ -473,6 +475,111 @@ class Sharing(unittest.IsolatedAsyncioTestCase):
                 found[most] = {name: [text for text, _ in each] for name, each in lines.items()}
         self.assertEqual(found[0], found[1 << 60])
         self.assertFalse(marked.can_mark(b"".join(b"a\0%d:%s\n" % (number, text) for number, text in enumerate(found[0]["a"]))))
+
+    async def test_the_time_of_a_search(self) -> None:
+        """If one search over all takes more than half of it, each has the other half."""
+        from tsearch.web import searching
+        from tsearch.web.repositories import Shared
+
+        find = Shared.find
+
+        async def slow(shared: Shared, query: Query) -> Answer:
+            if len(query.under) > 1:
+                await asyncio.sleep(SECONDS)
+            return await find(shared, query)
+
+        with unittest.mock.patch.object(Shared, "find", slow), unittest.mock.patch.object(searching, "GRACE", SECONDS / 2):
+            lines, counts = await self.searched({"a": "x one\n", "b": "x two\n"}, 1 << 20, milliseconds=200)
+        self.assertEqual({name: [text for text, _ in found] for name, found in lines.items()}, {"a": [b"x one"], "b": [b"x two"]})
+        self.assertEqual(counts, {"a": 1, "b": 1})
+
+    async def test_paths_that_may_be_seen(self) -> None:
+        """Those of which the host's patterns find the names, as a session writes them."""
+        from tsearch.web.repositories import Files, Filter, Served
+
+        files = Files(Served("x", os.fsencode(self.top)), self.shared)
+        paths = [b"a b/x", b"a%20b/x", b"a/x", b"c\xe9"]
+        for own, wanted in (
+            (Filter(), [0, 1, 2, 3]), (Filter(("^a%20b/",)), [0]), (Filter(("^a%2520b/",)), [1]), (Filter((), ("%20",)), [1, 2, 3]), (Filter(("/x$", "^a"), ("^a/",)), [0, 1]),
+            (Filter(under=("a b/", "a/")), [0, 2]), (Filter(not_under=("a b", "a%")), [2, 3]), (Filter(("x$",), (), ("a",), ("a/",)), [0, 1]), (Filter(under=("c\udce9",)), [3]),
+        ):  # fmt: skip
+            seen = [at for at, path in enumerate(paths) if await files.admits(own, path, b"visitor")]
+            self.assertEqual(seen, wanted, own)
+
+    async def test_all_look_at_a_new_program(self) -> None:
+        """Once one of them has found that the program has ended, though nobody searches."""
+        from tsearch.web.repositories import Files, Served, Shared
+
+        shared, repositories = Shared(self.session, lambda text: None), []
+        for name in "abc":
+            (self.top / name).mkdir()
+            (self.top / name / "text").write_text("in\n")
+            repositories.append(Files(Served(name, os.fsencode(self.top / name)), shared))
+        keeping = [asyncio.create_task(one.keep(100 * SECONDS, self.fail)) for one in repositories]
+        async with asyncio.timeout(SECONDS):
+            for life in 1, 2:
+                while not all(one.is_loaded for one in repositories) or shared.session.life != life:
+                    await asyncio.sleep(0.01)
+                self.assertEqual(len(await self.session.find("in")), 3)
+                if life == 1:
+                    self.session.kill()
+                    repositories[1].hint()
+            self.assertEqual(shared.repositories, set(repositories))
+            for one, task in zip(repositories, keeping):
+                await one.leave(task)
+        self.assertEqual((shared.repositories, (await self.session.status()).documents), (set(), 0))
+
+    async def test_reviews_of_what_is_served_no_longer(self) -> None:
+        """They go with it."""
+        from tsearch.web.repositories import Objects, Served
+
+        made = Made(self.top / "made.git")
+        commits = [made.commit("main", {b"n.c": b"int n%d;\n" % number}) for number in range(3)]
+        objects = Objects(Served("made", os.fsencode(made.path), ("main",)), self.shared)
+        keeping = asyncio.create_task(objects.keep(SECONDS, self.fail))
+        for pair in itertools.pairwise(commits):
+            async with objects.review(*pair) as review:
+                self.assertEqual((await review.find("int")).count("+"), 1)
+        await self.expect(1 + 2 * 2)
+        await objects.leave(keeping)
+        await self.expect(0)
+
+    async def test_the_limits_of_the_program(self) -> None:
+        """It has those that no visitor can lift."""
+        from tsearch.web.server import Server as Application
+        from tsearch.web.settings import Limits, Settings
+
+        for limits, pattern, wanted in (Limits(search_ms=60_000, answer=1_000), "xxx", "answer too long"), (Limits(search_ms=50), SLOW, "too slow"):
+            async with contextlib.AsyncExitStack() as stack:
+                session = await Application(Settings(served=(), limits=limits, readers=1), self.fail)._session(stack)
+                stack.push_async_callback(session.close)
+                await session.put("long", "x" * 2_000)
+                for name, body in slow_documents().items():
+                    await session.put(name, body)
+                await session.publish()
+                with self.assertRaises(tsearch.Error) as refused:
+                    await session.find(pattern)
+                self.assertEqual(refused.exception.reason, wanted)
+
+    async def test_the_commit_of_an_answer(self) -> None:
+        """It is that of the version that the answer is of, though the branch has moved since."""
+        from tsearch.web.repositories import Objects, Served
+
+        made = Made(self.top / "made.git")
+        objects = Objects(Served("made", os.fsencode(made.path), ("main", "topic")), self.shared)
+        commits, answers = [], []
+        for number in range(3):
+            commits.append(made.commit("main", {b"n.c": b"int n%d;\n" % number}))
+            await objects._look(self.fail)
+            answers.append(await self.session.find("int"))
+        found = [(await objects.found(answer, *objects.start("main"))).commit for answer in answers]
+        self.assertEqual(found, commits)
+        # another branch with the same files is no publish
+        made.commit("topic", {}, start="main")
+        await objects._look(self.fail)
+        self.assertEqual(objects._commit_at("main", answers[0].version), commits[0])
+        self.assertEqual(objects._commit_at("topic", answers[0].version), "")
+        self.assertEqual(objects._commit_at("main", answers[0].version - 1), "")
 
     async def expect(self, documents: int) -> None:
         """Waits until the session has so many."""

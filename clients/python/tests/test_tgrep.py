@@ -20,7 +20,7 @@ from tsearch.answers import Hit, View
 from tsearch.ignored import Rules
 from tsearch.query import Query
 from tsearch.shortening import shortened
-from tsearch.tgrep import arguments, asking, ere, places, tree, watched
+from tsearch.tgrep import arguments, asking, ere, past, places, tree, watched
 from tsearch.tgrep.asking import Piece
 from tsearch.tgrep.forms import Around, Empty, Passing, Reading, Row
 
@@ -308,10 +308,53 @@ class Example(unittest.TestCase):
             self.assertEqual((done.stdout, done.stderr), (b"> a.txt:2:the end\n> refused: group not closed at 1\n> ", b""))
             done = subprocess.run([*command, f"{name}/none"], input=b"x\n", capture_output=True, timeout=SECONDS, check=False)
             self.assertEqual((done.returncode, done.stdout), (1, b""))
-            self.assertIn(b"is no folder", done.stderr)
+            self.assertIn(b"is not a folder", done.stderr)
             done = subprocess.run([*command, "--help"], input=b"x\n", capture_output=True, timeout=SECONDS, check=False)
             self.assertEqual(done.returncode, 0)
             self.assertIn(b"Usage:", done.stdout)
+
+
+class Kept(unittest.IsolatedAsyncioTestCase):
+    async def test_what_is_kept_of_commits(self) -> None:
+        """Those that were asked for last, and each that is in use; one that fails is made again."""
+        kept, made, closed = past.Past(lambda _: None), [], []
+
+        class Some:
+            def __init__(self, key: str) -> None:
+                self.key = key
+
+            async def close(self) -> None:
+                closed.append(self.key)
+
+        async def make(key: str) -> Some:
+            made.append(key)
+            if key == "bad":
+                raise OSError(key)
+            return Some(key)
+
+        def lent(key: str):
+            return kept._lent((key,), lambda: make(key))
+
+        async def ask(*keys: str) -> None:
+            for key in keys:
+                async with lent(key) as some:
+                    self.assertEqual(some.key, key)
+
+        await ask("a", "b", "a", "c", "a")
+        self.assertEqual((made, closed), (["a", "b", "c"], ["b"]))
+        async with lent("a"), lent("c"), lent("d"):
+            await ask("e", "f", "e")
+            self.assertEqual(set(closed) & {"a", "c", "d"}, set())
+            async with lent("a"):
+                pass
+            self.assertEqual(made.count("a"), 1)
+        self.assertEqual((len(kept._kept), len(kept._used)), (2, 0))
+        for _ in range(2):
+            with self.assertRaises(OSError):
+                await ask("bad")
+        self.assertEqual(made.count("bad"), 2)
+        await kept.close()
+        self.assertEqual((sorted(closed), len(kept._kept)), (sorted(key for key in made if key != "bad"), 0))
 
 
 if __name__ == "__main__":

@@ -126,6 +126,17 @@ class Visitors(Host):
         asyncio.run(files.now(b"x", b"visitor"))
         self.assertEqual(lanes, [b"visitor"] * 2)
 
+    def test_reviews_of_one_visitor_at_a_time(self) -> None:
+        """They wait with the others."""
+        self.made.commit("main", {b"src/new.c": b"int new;\n"})
+        server = self.serve("--proxy", "127.0.0.1", "--search-ms", "60000", str(self.made.path))
+        path = f"/api/review?repository=made&before={self.first}&after=HEAD&q=int"
+        with concurrent.futures.ThreadPoolExecutor(30) as pool, stopped(server.programs()[0]):
+            reviews = [pool.submit(server.get, path, {"X-Forwarded-For": "198.51.100.1"}) for _ in range(30)]
+            until(lambda: sum(review.done() for review in reviews) == 12)
+            os.kill(server.programs()[0], signal.SIGCONT)
+            self.assertEqual(sorted(review.result()[0] for review in reviews), [200] * 18 + [429] * 12)
+
     def test_addresses(self) -> None:
         from tsearch.web.visitors import Visitors
 
@@ -172,6 +183,61 @@ class Visitors(Host):
             times = sorted(time for visit in visits for time in visit.result())
         self.assertLess(times[-1], SECONDS / 2)
         self.assertEqual(self.metric(server, "tsearch_web_search_seconds_count"), 500)
+
+
+@unittest.skipUnless(NO_REASON, REASON)
+class Turns(unittest.IsolatedAsyncioTestCase):
+    async def test_who_waits_holds_up_nobody(self) -> None:
+        """Of three searches at a time a visitor with many has two, and those that wait have none of the three."""
+        from tsearch.web.server import Asked
+        from tsearch.web.server import Server as Application
+        from tsearch.web.settings import Limits, Settings
+
+        application = Application(Settings(served=(), limits=Limits(searches=3)), self.fail)
+        application._shared = None
+        asked, goes_on, lanes = Asked.of({"q": ["x"]}, Limits()), asyncio.Event(), []
+
+        async def slow(_search: object) -> list:
+            await goes_on.wait()
+            return []
+
+        async def quick(search) -> list:
+            lanes.append(search._query.lane)
+            return []
+
+        many = [asyncio.create_task(application._outcomes_of({"address": "198.51.100.1"}, asked, slow)) for _ in range(18)]
+        await asyncio.sleep(0.01)
+        async with asyncio.timeout(SECONDS):
+            for address in "198.51.100.7", "2001:db8::/64", "", "a" * 65:
+                await application._outcomes_of({"address": address}, asked, quick)
+        # each has a lane of its own in the program, too
+        self.assertEqual(lanes, [b"198.51.100.7", b"2001:db8::/64", b"-", b"a" * 64])
+        self.assertEqual(sum(one.done() for one in many), 0)
+        goes_on.set()
+        await asyncio.gather(*many)
+        self.assertEqual((application._visitors._turns, +application._visitors._counts), ({}, {}))
+
+    async def test_nothing_is_kept_of_who_has_gone(self) -> None:
+        from tsearch.web.visitors import TooMany, Visitors
+
+        visitors = Visitors(frozenset())
+
+        async def visit(address: str) -> bool:
+            try:
+                async with visitors.turn(address):
+                    await asyncio.sleep(0.01)
+                    return True
+            except TooMany:
+                return False
+
+        found = await asyncio.gather(*[visit(f"{number % 50}") for number in range(1_000)])
+        self.assertEqual(sum(found), 50 * 18)
+        waiting = [asyncio.create_task(visit("gone")) for _ in range(3)]
+        await asyncio.sleep(0)
+        for one in waiting:
+            one.cancel()
+        await asyncio.wait(waiting)
+        self.assertEqual((visitors._turns, dict(visitors._counts)), ({}, {}))
 
 
 @unittest.skipUnless(NO_REASON, REASON)

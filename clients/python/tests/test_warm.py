@@ -2,13 +2,20 @@
 
 from __future__ import annotations
 
+import asyncio
 import base64
 import random
 import re
 import subprocess
+import types
 import unittest
+import unittest.mock
 
 from helpers import Model, found_in, lines_of
+from tsearch import aio
+from tsearch.query import Query
+from tsearch.tgrep import editor, overlays
+from tsearch.tgrep.editor_requests import Request
 from tsearch.tgrep.groups import groups_of
 from tsearch.warm import Warm, WarmRefused
 from warmed import TGREP, Place, shown_by, text_of
@@ -114,6 +121,137 @@ class Finds(Place):
         ):
             with self.subTest(options=options):
                 self.assertEqual([row[0] for row in shown_by(warm, "foo", **options)[2]], [name.encode() for name in wanted.split()])
+
+
+    def test_names_in_either_case(self) -> None:
+        """An overlay is over the file of just this name, though patterns of names ignore case."""
+        self.write({b"a.c": b"foo a\n", b"A.c": b"foo A\n", b"b.c": b"foo b\n"})
+        warm = self.warm()
+        warm.ask("overlay", name="A.c", text="bar\nfoo unsaved\n")
+        for options in {"names": ["^A"]}, {"not_names": ["B"]}, {"names": ["^A"], "limit": 2}:
+            rows = shown_by(warm, "foo", names_ignore_case=True, **options)[2]
+            self.assertEqual([row[:3] for row in rows], [(b"A.c", 2, b"foo unsaved"), (b"a.c", 1, b"foo a")], options)
+        self.assertEqual([row[:3] for row in shown_by(warm, "foo", names=["^A"])[2]], [(b"A.c", 2, b"foo unsaved")])
+
+
+class Sent(unittest.IsolatedAsyncioTestCase):
+    """What an editor has open, in a session of its own."""
+
+    def setUp(self) -> None:
+        self.overlays = overlays.Overlays()
+        self.addAsyncCleanup(self.overlays.close)
+
+    async def found(self) -> tuple[dict[bytes, bytes], dict[bytes, str]]:
+        """The texts that are searched, and what cannot be, with the reason."""
+        answer, _, missing, count = await self.overlays.find(Query(b""))
+        self.assertEqual(count, self.overlays.count)
+        return {hit.name: hit.text for hit in answer}, missing
+
+    async def test_finds_that_are_cancelled(self) -> None:
+        """What they have begun to send is all sent: the next one finds each text as it is, and tells what is refused."""
+        edit, bad = self.overlays.edit, {b"bad": "byte 0 in body"}
+        for name in b"a", b"bad", b"gone", b"other":
+            edit(name, 0, None, [b"first"])
+        await self.found()
+        for number, (call, turn) in enumerate([("remove", 1), ("remove", 2), ("put", 1), ("put", 2), ("put", 3), ("publish", 1)]):
+            with self.subTest(call=call, turn=turn):
+                edit(b"a", 0, None, [b"a %d" % number])
+                edit(b"new", 0, None, [b"new %d" % number])
+                edit(b"bad", 0, None, [b"\0"])
+                for name in b"gone", b"other":
+                    self.overlays.release(name)
+                begun, goes_on, real = asyncio.Event(), asyncio.Event(), getattr(self.overlays._session, call)
+                left = turn
+
+                async def held(*words: bytes) -> object:
+                    nonlocal left
+                    left -= 1
+                    if left == 0:
+                        begun.set()
+                        await goes_on.wait()
+                    return await real(*words)
+
+                with unittest.mock.patch.object(self.overlays._session, call, held):
+                    finding = asyncio.create_task(self.overlays.find(Query(b"")))
+                    await begun.wait()
+                    finding.cancel()
+                    with self.assertRaises(asyncio.CancelledError):
+                        await finding
+                    goes_on.set()
+                    self.assertEqual(await self.found(), ({b"a": b"a %d" % number, b"new": b"new %d" % number}, bad))
+                for name in b"gone", b"other":
+                    edit(name, 0, None, [b"first"])
+                self.assertEqual(set((await self.found())[0]), {b"a", b"new", b"gone", b"other"})
+
+    async def test_edits_during_a_find(self) -> None:
+        """An answer tells how many changes it has, and the next one has the others."""
+        self.overlays.edit(b"a", 0, None, [b"one"])
+        self.overlays.edit(b"b", 0, None, [b"b"])
+        await self.found()
+        self.overlays.edit(b"a", 0, None, [b"two"])
+        self.overlays.edit(b"b", 0, None, [b"b"])
+        for call in "remove", "put", "publish":
+            real = getattr(self.overlays._session, call)
+
+            async def edited(*words: bytes) -> object:
+                self.overlays.edit(b"a", 0, None, [b"three"])
+                self.overlays.release(b"b")
+                return await real(*words)
+
+            before = self.overlays.count
+            with unittest.mock.patch.object(self.overlays._session, call, edited):
+                answer, names, _, count = await self.overlays.find(Query(b""))
+            self.assertEqual((count, names, {hit.name: hit.text for hit in answer}), (before, {b"a", b"b"}, {b"a": b"two", b"b": b"b"}))
+            self.assertEqual((await self.found())[0], {b"a": b"three"})
+            self.overlays.edit(b"a", 0, None, [b"two"])
+            self.overlays.edit(b"b", 0, None, [b"b"])
+
+    async def test_what_an_editor_is_told(self) -> None:
+        """How many changes the answer has, though another one has come before the last row is sent."""
+        session = await self.enterAsyncContext(aio.Session.started())
+        tree = types.SimpleNamespace(session=session, left_out={})
+        host = types.SimpleNamespace(tree=tree, overlays=self.overlays, send_rows=lambda request, message: None)
+        self.overlays.edit(b"a", 0, None, [b"one"])
+        find = self.overlays.find
+
+        async def edited(query: Query) -> tuple:
+            found = await find(query)
+            self.overlays.edit(b"a", 0, None, [b"two"])
+            return found
+
+        for options in {}, {"counts": True}, {"header_only": True}:
+            before = self.overlays.count
+            request = Request(1, "find", {"query": Query(b"", **options)})
+            with unittest.mock.patch.object(self.overlays, "find", edited):
+                told = await editor._Answering(host, request).answer()
+            self.assertEqual((told["overlays"], told["count"]), (before, 1), options)
+
+    async def test_a_program_that_ends(self) -> None:
+        """All texts are sent to the next one, and what was released is not in it."""
+        for name in b"a", b"b":
+            self.overlays.edit(name, 0, None, [b"old"])
+        await self.found()
+        self.overlays.edit(b"a", 0, 1, [b"new"])
+        self.overlays.release(b"b")
+        self.overlays._session.kill()
+        self.assertEqual(await self.found(), ({b"a": b"new"}, {}))
+
+    def test_how_much_there_may_be(self) -> None:
+        """A line takes its bytes and one more; what is replaced or released takes none."""
+        edit = self.overlays.edit
+        with unittest.mock.patch.object(overlays, "_MOST_TEXT", 20):
+            for _ in range(3):
+                edit(b"a", 0, None, [b"1234567890", b"12345678"])
+                with self.assertRaisesRegex(overlays.OverlayRefused, "too much text"):
+                    edit(b"b", 0, None, [b""])
+                edit(b"a", 1, 2, [b"123456"])
+                edit(b"b", 0, 0, [b""])
+                edit(b"b", 1, 1, [])
+                self.overlays.release(b"a")
+                edit(b"b", 0, None, [b"123456789012345678", b""])
+                self.overlays.release(b"b")
+            with self.assertRaisesRegex(overlays.OverlayRefused, r"\(lines: 0\)"):
+                edit(b"a", 0, 1, [])
 
 
 class Forms(Place):

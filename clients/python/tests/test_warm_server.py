@@ -152,6 +152,10 @@ const {{ Tgrep }} = require({json.dumps(str(NODE))});
   const found = await tgrep.find("foo", {{ spans: true, units: "utf-16" }});
   console.log(JSON.stringify([found.count, found.documents]));
   await tgrep.find("fo(o").catch((fault) => console.log(fault.kind, fault.offset));
+  const other = await Tgrep.open({json.dumps(str(self.top))}, {json.dumps(str(TOP / "tgrep"))});
+  const asked = other.ask("status");
+  other.socket.destroy();
+  await asked.catch((fault) => console.log(fault.message));
   await tgrep.ask("follow");
   tgrep.on("changes", (event) => {{ console.log(JSON.stringify(event.names)); tgrep.socket.end(); }});
   require("node:fs").writeFileSync("c.c", "foo\\n");
@@ -163,7 +167,7 @@ const {{ Tgrep }} = require({json.dumps(str(NODE))});
         documents = [{"name": "a.c", "lines": [{"line": 1, "text": "é foo(1)", "spans": [[2, 5]]}]}]
         documents += [{"name": "b.c", "lines": [{"line": 1, "text": "unsaved foo", "spans": [[8, 11]]}]}]
         self.assertEqual(json.loads(first), [2, documents])
-        self.assertEqual(rest, ["pattern 2", '["c.c"]'])
+        self.assertEqual(rest, ["pattern 2", "the server has ended", '["c.c"]'])
 
 
 class Sockets(Place):

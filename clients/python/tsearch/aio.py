@@ -21,7 +21,7 @@ from .names import to_bytes
 from .paths import check
 from .program import MOST_BODY, MOST_COMMANDS, MOST_NAME, TO_END, command, kill_group
 from .query import Options, Query
-from .review import Found, Patch, cut, prefix_of_its_own, query_in, refused_in, wanted_by
+from .review import Found, Patch, cut, prefix_of_its_own, query_in, refused_in, seen_by, wanted_by
 from .session import MOST_OPEN, MOST_TRIES
 
 if TYPE_CHECKING:
@@ -270,7 +270,7 @@ class Changes:
 
     async def put(self, name: str | bytes, body: str | bytes) -> Change:
         """Adds a document, or replaces the one of this name. The body is bytes, or text that is sent as UTF-8."""
-        data = body.encode() if isinstance(body, str) else bytes(body)
+        data = body.encode() if isinstance(body, str) else to_bytes(body)
         return await self._change(lambda core: core.put(name, data))
 
     async def load(self, name: str | bytes, path: str | bytes | os.PathLike[str] | os.PathLike[bytes]) -> Change:
@@ -797,7 +797,7 @@ class Review:
             self.published = published
         self._held -= refused_in(self.patch, self._prefix, published.refused)
 
-    async def find(self, pattern: str | bytes, **options: Unpack[Options]) -> Found:
+    async def find(self, pattern: str | bytes, *, sees: Callable[[bytes], bool] | None = None, **options: Unpack[Options]) -> Found:
         """The lines with a match, as `tsearch.review.Review.find` gives them, with its errors."""
         asked = Query.of(pattern, **options)
         if asked.names or asked.not_names:
@@ -810,7 +810,7 @@ class Review:
         if self._is_closed:
             raise Error("the review is closed")
         files = await asyncio.to_thread(lambda: list(self.patch.files(answer, self._prefix)))
-        return Found(answer.version, *cut(wanted_by(asked, files), asked.limit))
+        return Found(answer.version, *cut(wanted_by(asked, seen_by(sees, files)), asked.limit))
 
     async def close(self) -> None:
         """Removes the documents. A second call does nothing. `find` raises `Error` from then on."""

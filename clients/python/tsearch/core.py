@@ -199,7 +199,7 @@ class Core:
             at = end + 1
         self._rest = data[at:]
         if len(self._rest) > _LONGEST_HEAD:
-            raise NotUnderstood(f"no text of a session begins so: {self._rest[:80]!r}")
+            raise NotUnderstood(f"not the beginning of a text of a session: {self._rest[:80]!r}")
         settled, self._settled = self._settled, []
         return settled
 
@@ -244,7 +244,7 @@ class Core:
                 (self._refused if sent.refusals is None else sent.refusals).append(error)
             self._settle(sent, error=error)
         else:
-            raise NotUnderstood(f"no text of a session is so: {head[:80]!r}")
+            raise NotUnderstood(f"not a text of a session: {head[:80]!r}")
 
     def _item_at(self, line: int, head: bytes) -> Sent:
         self._accept_before(line)

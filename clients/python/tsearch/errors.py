@@ -33,7 +33,7 @@ class PatternRefused(Refused):
 
 
 class OptionRefused(Refused):
-    """The options of a search exclude each other, a number is out of its range, a lane is no word, a prefix is empty, or there are over 16
+    """The options of a search exclude each other, a number is out of its range, a lane is not a word, a prefix is empty, or there are over 16
     of `names` or of `not_names`, or over 4,096 of `under` or of `not_under`."""
 
 
@@ -45,7 +45,7 @@ class ChangeRefused(Refused):
         self.name = name
 
     def __str__(self) -> str:
-        return f"{self.name.decode(errors='backslashreplace')}: {self.reason}"
+        return f"{self.name.decode(errors='backslashreplace')}: {self.reason}" if self.name else self.reason
 
 
 class PublishRefused(Refused):

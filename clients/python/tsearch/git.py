@@ -41,7 +41,7 @@ _GIT_TIME = 600
 
 
 class NoRepository(Error):
-    """A folder is no git repository, or git cannot read it."""
+    """A folder is not a git repository, or git cannot read it."""
 
 
 class Entry(NamedTuple):
@@ -58,7 +58,7 @@ class Store:
         self.path = os.path.abspath(os.fsencode(path))
         found = git_folder(self.path)
         if found is None:
-            raise NoRepository(f"{os.fsdecode(self.path)} is no git repository")
+            raise NoRepository(f"{os.fsdecode(self.path)} is not a git repository")
         self.folder = found
         # a repository that is named like this may have any owner. None of git's variables is passed on: a hook has some for itself
         self._environment = {key: text for key, text in os.environb.items() if not key.startswith(b"GIT_") or key == b"GIT_EXEC_PATH"}

@@ -16,12 +16,14 @@ _QUOTED = re.compile(rb"[\0-\x20%\x7f]")
 
 
 def to_bytes(text: str | bytes) -> bytes:
-    """Text as UTF-8. What `os.fsdecode` made of bytes that are no UTF-8 becomes these bytes again."""
-    return text.encode("utf-8", "surrogateescape") if isinstance(text, str) else bytes(text)
+    """Text as UTF-8. What `os.fsdecode` made of bytes that are not UTF-8 becomes these bytes again. `TypeError` for a number."""
+    if isinstance(text, str):
+        return text.encode("utf-8", "surrogateescape")
+    return text if isinstance(text, bytes) else bytes(memoryview(text))
 
 
 def to_text(data: bytes) -> str:
-    """The reverse of `to_bytes`: every byte that is no UTF-8 becomes a lone surrogate, as in `os.fsdecode`."""
+    """The reverse of `to_bytes`: every byte that is not UTF-8 becomes a lone surrogate, as in `os.fsdecode`."""
     return data.decode("utf-8", "surrogateescape")
 
 

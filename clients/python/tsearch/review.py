@@ -14,7 +14,7 @@ import difflib
 import itertools
 import os
 import re
-from collections.abc import Iterable, Iterator
+from collections.abc import Callable, Iterable, Iterator
 from types import TracebackType
 from typing import NamedTuple, Unpack
 
@@ -109,7 +109,7 @@ class Patch:
         commits = store.commits([before, after])
         for name in before, after:
             if name not in commits:
-                raise Error(f"{name} is no commit of {os.fsdecode(store.path)}")
+                raise Error(f"{name} is not a commit of {os.fsdecode(store.path)}")
         self.before, self.after = commits[before], commits[after]
         self.changed = list(_changed(store, self.before, self.after))
         self._whole = whole
@@ -284,6 +284,15 @@ def wanted_by(asked: Query, files: Iterable[File]) -> Iterator[File]:
             yield file
 
 
+def seen_by(sees: Callable[[bytes], bool] | None, files: Iterable[File]) -> Iterator[File]:
+    """The files as they are for who sees some paths alone, or with None all: one whose path before is not seen is new."""
+    for file in files:
+        if sees is None or None in (file.before, file.after) or sees(file.before or b""):
+            yield file
+        else:
+            yield File(None, file.after, [line._replace(sign=ADDED, before=None) for line in file.lines if line.sign != REMOVED])
+
+
 class Review:
     """The files of a patch in a session, as they are before and after it, until the end of the block.
 
@@ -334,9 +343,12 @@ class Review:
         """The commits before and after."""
         return self._patch.before, self._patch.after
 
-    def find(self, pattern: str | bytes, *, timeout: float | None = None, **options: Unpack[Options]) -> Found:
+    def find(
+        self, pattern: str | bytes, *, timeout: float | None = None, sees: Callable[[bytes], bool] | None = None, **options: Unpack[Options]
+    ) -> Found:
         """The lines with a match. The options are those of `Session.find` that say what is found; those for names are for paths, and `limit`
-        for all lines together. The errors are those of `Session.find`."""
+        for all lines together. With `sees` a file that had another path before, of which that is not true, is taken for a new one. The errors
+        are those of `Session.find`."""
         asked = Query.of(pattern, **options)
         if asked.names or asked.not_names:
             self._session.find_query(dataclasses.replace(check(asked.names, asked.not_names), lane=asked.lane), timeout=timeout)
@@ -345,7 +357,8 @@ class Review:
             # the program was started again, without them
             self._fill()
             answer = self._session.find_query(query_in(self._prefix, asked), timeout=timeout)
-        return Found(answer.version, *cut(wanted_by(asked, self._patch.files(answer, self._prefix)), asked.limit))
+        files = seen_by(sees, self._patch.files(answer, self._prefix))
+        return Found(answer.version, *cut(wanted_by(asked, files), asked.limit))
 
     def close(self) -> None:
         """Removes the documents. A second call does nothing."""

@@ -19,6 +19,7 @@ from typing import Any, Protocol, Unpack
 from .answers import Answer, Published, Status, joined
 from .core import Core, Sent, SentSearch, ended_by, ended_with, status_of, value_of
 from .errors import ChangeRefused, Ended, Error
+from .names import to_bytes
 from .program import MOST_BODY, MOST_COMMANDS, MOST_NAME, TO_END, command, kill_group
 from .query import Options, Query
 
@@ -403,7 +404,7 @@ class Changes:
 
     def put(self, name: str | bytes, body: str | bytes) -> Change:
         """Adds a document, or replaces the one of this name. The body is bytes, or text that is sent as UTF-8."""
-        data = body.encode() if isinstance(body, str) else bytes(body)
+        data = body.encode() if isinstance(body, str) else to_bytes(body)
         return self._change(lambda core: core.put(name, data))
 
     def load(self, name: str | bytes, path: str | bytes | os.PathLike[str] | os.PathLike[bytes]) -> Change:

@@ -91,7 +91,7 @@ def _set(given, row, name, text):
         text = value
     elif value == "number":
         if not (text.isascii() and text.isdecimal()):
-            raise Refused(f"{name} needs a number, and {text} is none")
+            raise Refused(f"{name} needs a number, and {text} is not one")
         text = int(text)
     elif value == "size":
         text = _size(name, text)
@@ -112,7 +112,7 @@ def _set(given, row, name, text):
 def _size(name, text):
     digits, shift = text.rstrip("KMG"), "KMG".find(text[-1:]) + 1 if text else 0
     if not (digits.isascii() and digits.isdecimal() and len(digits) >= len(text) - 1):
-        raise Refused(f"{name} needs a size such as 5000, 50K, 80M or 1G, and {text} is none")
+        raise Refused(f"{name} needs a size such as 5000, 50K, 80M or 1G, and {text} is not one")
     return int(digits) << 10 * shift
 
 

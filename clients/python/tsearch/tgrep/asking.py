@@ -147,7 +147,7 @@ def _of_globs(given: dict[str, Any]) -> tuple[list[globs.Glob], list[globs.Glob]
         if glob.startswith(b"!"):
             left_out.append((glob[1:], ignores_case))
         elif left_out:
-            raise Refused("-g with a ! before one without is refused: write those with a ! last")
+            raise Refused("a -g with a ! before one without is refused: write those with a ! last")
         else:
             chosen.append((glob.removeprefix(b"\\") if glob.startswith(b"\\!") else glob, ignores_case))
     return chosen, left_out
@@ -175,7 +175,7 @@ def _globs_of_type(name: str, types: dict[str, list[str]]) -> list[str]:
     if name == "all":
         return sorted({glob for found in types.values() for glob in found})
     if name not in types:
-        raise Refused(f"there is no type {name}: tgrep --type-list shows those that there are, and -g '*.{name}' takes files by their names")
+        raise Refused(f"there is no type {name}: tgrep --type-list lists the types, and -g '*.{name}' takes files by their names")
     return types[name]
 
 

@@ -145,7 +145,7 @@ def _past(given, paths):
     if top is None and all(os.path.exists(os.path.join(start, part)) for part in ("HEAD", "objects", "refs")):
         top, given["no_server"] = start, True  # a repository without files that could be kept
     if top is None:
-        raise arguments.Refused(f"{start} is in no git repository, which --at, --changed and --diff need")
+        raise arguments.Refused(f"{start} is not in a git repository, which --at, --changed and --diff need")
     return [(top, [(typed, os.path.abspath(os.path.join(here, typed)), True) for typed in paths or [""]])]
 
 

@@ -287,8 +287,7 @@ class _Answering:
     async def answer(self) -> dict[str, Any]:
         """Sends the rows, and gives what comes behind them."""
         tree, overlays = self._editor.tree, self._editor.overlays
-        overlaid, names, missing = await overlays.find(self._query)
-        count = overlays.count
+        overlaid, names, missing, count = await overlays.find(self._query)
         query, dropped = without(self._query, names)
         merging = Merging([] if overlaid is None else rows_of(overlaid), dropped, query.limit, query.context)
         if query.view in (View.LINES, View.COLUMN, View.SPANS, View.CONTEXT) and len(query.parts()) == 1 and not (dropped or self._has_groups):

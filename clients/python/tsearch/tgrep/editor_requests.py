@@ -132,9 +132,9 @@ def read(line: bytes) -> Request:
     try:
         found = json.loads(text)
     except json.JSONDecodeError as error:
-        raise BadRequest(f"no JSON: {error.msg}", len(to_bytes(text[: error.pos]))) from None
+        raise BadRequest(f"not JSON: {error.msg}", len(to_bytes(text[: error.pos]))) from None
     except (RecursionError, ValueError) as error:
-        raise BadRequest(f"no JSON that is read: {error}", 0) from None
+        raise BadRequest(f"JSON that cannot be read: {error}", 0) from None
     if not isinstance(found, dict):
         raise BadRequest("write an object", 0)
     number = found.pop("id", None)
@@ -156,7 +156,7 @@ def read(line: bytes) -> Request:
             raise BadRequest(str(error), key, number) from None
     for key in _KEYS[do]:
         if key.endswith("!") and key[:-1] not in given:
-            raise BadRequest(f"{do} needs it", key[:-1], number)
+            raise BadRequest(f"{do} needs this key", key[:-1], number)
     return Request(number, do, given)
 
 

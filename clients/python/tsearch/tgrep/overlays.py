@@ -44,6 +44,7 @@ class Overlays:
         self._released: set[bytes] = set()
         self._size = 0
         self._session: aio.Session | None = None
+        self._sending: asyncio.Task[tuple[frozenset[bytes], int]] | None = None
         self._lock = asyncio.Lock()
         # how many changes there were
         self.count = 0
@@ -63,7 +64,7 @@ class Overlays:
         text = self._texts.get(name) or _Text([])
         last = len(text.lines) if last is None else last
         if not first <= last <= len(text.lines):
-            raise OverlayRefused(f"there are {len(text.lines)} lines")
+            raise OverlayRefused(f"first and last are not in order, or not within the text (lines: {len(text.lines)})")
         size = self._size + sum(map(len, lines)) + len(lines) - sum(map(len, text.lines[first:last])) - (last - first)
         if size > _MOST_TEXT:
             raise OverlayRefused("too much text")
@@ -81,41 +82,51 @@ class Overlays:
             self._released.add(name)
             self.count += 1
 
-    async def find(self, query: Query) -> tuple[Answer | None, frozenset[bytes], dict[bytes, str]]:
-        """The answer in the overlays as they are now, the names that are overlaid, and those of them that cannot be searched, with the
-        reason."""
+    async def find(self, query: Query) -> tuple[Answer | None, frozenset[bytes], dict[bytes, str], int]:
+        """The answer in the overlays as they are now, the names that are overlaid, those of them that cannot be searched, with the reason, and
+        how many changes the answer has."""
         async with self._lock:
             if not self._texts:
-                return None, frozenset(), {}
+                return None, frozenset(), {}, self.count
             for _ in range(_TRIES):
                 try:
-                    names = await self._send()
+                    names, count = await self._sent()
                     assert self._session
                     answer = await self._session.find_query(query)
-                    return answer, names, {name: text.refused for name, text in self._texts.items() if text.refused}
+                    return answer, names, {name: text.refused for name, text in self._texts.items() if text.refused}, count
                 except Ended:
                     await self._end()
             raise Error("the program ends again and again")
 
-    async def _send(self) -> frozenset[bytes]:
-        """Sends what has changed. The names of all overlays then."""
+    async def _sent(self) -> tuple[frozenset[bytes], int]:
+        """Sends what has changed. The names of all overlays then, and how many changes there were. It goes on if its caller is cancelled: what
+        is sent in part would be found as it was."""
+        self._sending = asyncio.create_task(self._send(self._sending))
+        self._sending.add_done_callback(lambda done: done.cancelled() or done.exception())
+        return await asyncio.shield(self._sending)
+
+    async def _send(self, before: asyncio.Task[tuple[frozenset[bytes], int]] | None) -> tuple[frozenset[bytes], int]:
+        """Does it, once the one before is done."""
+        if before:
+            await asyncio.wait([before])
         if self._session is None:
             self._session = await aio.Session.start(readers=1)
-        session, released, names = self._session, self._released, self.names
-        changed = {name: b"\n".join([*text.lines, b""]) for name, text in self._texts.items() if not text.is_sent}
+        session, released, names, count = self._session, self._released, self.names, self.count
+        changed = {name: (text, b"\n".join([*text.lines, b""])) for name, text in self._texts.items() if not text.is_sent}
         self._released = set()
+        for text, _ in changed.values():
+            text.is_sent, text.refused = True, ""
         for name in released - names:
             await session.remove(name)
-        for name, body in changed.items():
-            self._texts[name].is_sent, self._texts[name].refused = True, ""
+        for name, (_, body) in changed.items():
             # the older text goes, whether the new one is taken or not
             await session.remove(name)
             await session.put(name, b"" if body == b"\n" else body)
         if changed or released:
             for refusal in (await session.publish()).refused:
-                if refusal.name in self._texts and refusal.reason != "no such file":
-                    self._texts[refusal.name].refused = refusal.reason
-        return names
+                if refusal.name in changed and refusal.reason != "no such file":
+                    changed[refusal.name][0].refused = refusal.reason
+        return names, count
 
     async def _end(self) -> None:
         for text in self._texts.values():
@@ -128,6 +139,10 @@ class Overlays:
     async def close(self) -> None:
         """Ends the session."""
         self._texts.clear()
+        if self._session:
+            self._session.kill()
+        if self._sending:
+            await asyncio.wait([self._sending])
         await self._end()
 
 

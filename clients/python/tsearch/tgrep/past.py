@@ -134,6 +134,7 @@ class Past:
             raise
         finally:
             self._used[key] -= 1
+            self._used += collections.Counter()  # those of none go
             for other in [one for one in self._kept if not self._used[one]][: max(len(self._kept) - _MOST, 0)]:
                 await self._drop(other)
 
@@ -203,7 +204,7 @@ class Past:
 def _commit(store: Store, name: str) -> str:
     found = store.commits([name]) if not any(letter in name for letter in "*?[") else {}
     if name not in found:
-        raise Error(f"{name} is no commit of this repository")
+        raise Error(f"{name} is not a commit of this repository")
     return found[name]
 
 

@@ -68,7 +68,7 @@ def _served(given: argparse.Namespace, parser: argparse.ArgumentParser) -> tuple
         parser.error("give repositories, or --settings with a file that names them")
     for folder in given.repositories:
         if not os.path.isdir(folder):
-            parser.error(f"{folder} is no folder")
+            parser.error(f"{folder} is not a folder")
     try:
         if given.settings:
             return read_served(given.settings)

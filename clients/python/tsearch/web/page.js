@@ -270,7 +270,7 @@ async function searchAll(words, own) {
 
 function showTotal(total) {
   const files = counted(results.querySelectorAll("section").length, "file");
-  const missing = total.missing ? ` No answer of ${total.missing.join(", ")}.` : "";
+  const missing = total.missing ? ` No answer from ${total.missing.join(", ")}.` : "";
   const first = total.all ? `the first ${total.lines.toLocaleString("en")} of ${counted(total.all, "line")}` : `the first ${counted(total.lines, "line")}`;
   const lines = `${total.more ? first : counted(total.lines, "line")} in ${files}${total.more && !total.all ? ", and there are more" : ""}`;
   show((total.lines ? `${lines}, in ${Math.round(total.seconds * 1000)} ms.` : "No line matches.") + missing);

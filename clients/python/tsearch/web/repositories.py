@@ -9,6 +9,7 @@ import asyncio
 import collections
 import contextlib
 import dataclasses
+import functools
 import itertools
 import os
 import traceback
@@ -301,12 +302,11 @@ class Repository:
         """Whether a path may be seen. The lane is that of who asks."""
         if not any(own):
             return True
-        names, not_names, among, not_among = (tuple(map(to_bytes, some)) for some in own)
-        if (among and not path.startswith(among)) or path.startswith(not_among):
+        if not seeing(own._replace(names=(), not_names=()))(path):
             return False
+        names, not_names = (tuple(map(to_bytes, some)) for some in (own.names, own.not_names))
         await self.shared.find(dataclasses.replace(check(names, not_names), lane=lane))
-        wanted, unwanted = ([ere.names(under(one, b"")).has for one in patterns] for patterns in (names, not_names))
-        return all(test(quote(path)) for test in wanted) and not any(test(quote(path)) for test in unwanted)
+        return seeing(own)(path)
 
 
 class Files(Repository):
@@ -439,7 +439,7 @@ class Objects(Repository):
         commits = self.revisions
         revision = revision or next(iter(commits), "")
         if revision not in commits:
-            raise Gone(f"there is no {revision}" if revision else "there is no commit yet")
+            raise Gone(f"there is no revision {revision}" if revision else "there is no commit yet")
         return revision
 
     def _commit_at(self, revision: str, version: int) -> str:
@@ -460,10 +460,10 @@ class Objects(Repository):
     async def at(self, commit: str, path: bytes) -> bytes:
         """The text of a file of a commit. `Gone` if there is no such file, or it has none, or the commit is none that is served."""
         if not await self._is_served(commit):
-            raise Gone("this commit is not served, or no longer")
+            raise Gone("this commit is not, or no longer, served")
         body = await asyncio.to_thread(self._text, commit, path)
         if isinstance(body, str):
-            raise Gone(f"it is no text that can be shown: {body}")
+            raise Gone(f"it cannot be shown as text: {body}")
         return body
 
     def _text(self, commit: str, path: bytes) -> bytes | str:
@@ -478,7 +478,7 @@ class Objects(Repository):
         git would look through all messages."""
         found = self.revisions.get(name) or (await asyncio.to_thread(self.store.commits, [name]) if not set(name) & set("*?[{") else {}).get(name, "")
         if not found or not await self._is_served(found):
-            raise Gone(f"{name} is no commit that is served")
+            raise Gone(f"{name} is not a commit that is served")
         return found
 
     @contextlib.asynccontextmanager
@@ -513,6 +513,20 @@ def _close_review(task: asyncio.Task[aio.Review]) -> None:
 async def _closed(review: aio.Review) -> None:
     with contextlib.suppress(Error):
         await review.close()
+
+
+def seeing(own: Filter) -> Callable[[bytes], bool]:
+    """Whether a path may be seen. Once it is called the program has to have taken the patterns (`paths.check`)."""
+    names, not_names, among, not_among = (tuple(map(to_bytes, some)) for some in own)
+    tests = functools.cache(lambda patterns: [ere.names(under(one, b"")).has for one in patterns])
+
+    def sees(path: bytes) -> bool:
+        if (among and not path.startswith(among)) or path.startswith(not_among):
+            return False
+        name = quote(path)
+        return all(test(name) for test in tests(names)) and not any(test(name) for test in tests(not_names))
+
+    return sees
 
 
 def unforeseen(repository: str, error: BaseException) -> dict[str, str]:

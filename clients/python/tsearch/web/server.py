@@ -29,7 +29,7 @@ from ..shortening import LONGEST, shortened
 from ..watching import hints
 from .marks import marks_of
 from .measures import Histogram, Log, Metrics, memory_of
-from .repositories import Files, Filter, Found, Gone, Objects, Repository, Served, Shared, Unread, repository_of, unforeseen
+from .repositories import Files, Filter, Found, Gone, Objects, Repository, Served, Shared, Unread, repository_of, seeing, unforeseen
 from .rows import BLOCK, blocks_of, id_of
 from .searching import GRACE, Search
 from .settings import Limits, Settings, read_served
@@ -637,7 +637,7 @@ async def _reviewed(repository: Objects, asked: Asked, words: dict[str, str], ow
         under=own.under, not_under=own.not_under, lane=lane,
     )  # fmt: skip
     async with repository.review(commits[0], commits[1]) as review:
-        found = await review.find(query.pattern, **options)
+        found = await review.find(query.pattern, sees=seeing(own) if any(own) else None, **options)
         return found, {"before": commits[0], "after": commits[1], "left_out": len(review.patch.left_out)}
 
 

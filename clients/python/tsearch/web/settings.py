@@ -98,7 +98,7 @@ def _served(row: Any, place: str, base: str) -> Served:
 def checked(served: Served, place: str) -> Served:
     """The same. `Error` if it cannot be served."""
     if not os.path.isdir(served.path):
-        raise Error(f"{place}: {os.fsdecode(served.path)} is no folder")
+        raise Error(f"{place}: {os.fsdecode(served.path)} is not a folder")
     if served.revisions:
         try:
             Store(served.path)
