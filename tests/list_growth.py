@@ -122,7 +122,7 @@ def faults_beyond(what, counts, other, others, most, show):
 def main():
     counted = Counted()
     with tempfile.TemporaryDirectory() as folder:
-        program = copies.build_program(os.path.join(folder, "copy"), copies.beside(__file__), ["query", "posting"])
+        program = copies.build_program(os.path.join(folder, "copy"), copies.beside(__file__), ["query", "posting", "watch"])
         library = os.path.join(folder, "counting.so")
         subprocess.run(["cc", "-O2", "-shared", "-fPIC", "-x", "c", "-", "-o", library], input=COUNTING, text=True, check=True)
         with concurrent.futures.ThreadPoolExecutor(os.cpu_count()) as pool:

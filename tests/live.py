@@ -568,7 +568,7 @@ def client_of_a_folder():
             client.end(0)
         missing = str(top / "missing")
         ended = subprocess.run([sys.executable, str(CLIENT), missing], stdin=subprocess.DEVNULL, capture_output=True, timeout=60)
-        same("a folder that is not there", (ended.returncode, ended.stdout, ended.stderr), (1, b"", b"%s is no folder\n" % missing.encode()))
+        same("a folder that is not there", (ended.returncode, ended.stdout, ended.stderr), (1, b"", b"%s is not a folder\n" % missing.encode()))
 
 
 WITH_EACH = [

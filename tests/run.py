@@ -30,9 +30,8 @@ The case `architecture` runs nothing: it compares docs/ARCHITECTURE.md with the 
 the test that the document names. Each file that this document or another one of PAGES names must be there.
 
 The case `README` runs each command that README.md shows after `$ `, at the top of a copy of what the repository shows there.
-The command must write the lines below it, and nothing to standard error. Lines that are typed are not compared: those of a session
-up to the first answer, and those after the prompt `> ` of the client, which an empty line ends. There must be a command of each
-way: with the script on standard input, a session, a folder at the terminal, and the client.
+The command must write the lines below it, and nothing to standard error. The lines of a session up to its first answer are typed, and
+not compared. There must be a command of each way: a folder at the terminal, and a session.
 
 With --compiled, the cases run on the program that is compiled with checks, with no readers and as sessions, and nothing else runs.
 With --again, each case and example runs N times with 16 readers, as a run and as a session, or 50 times without N; nothing else runs.
@@ -328,10 +327,6 @@ def commands_shown(text):
 
 def typed_and_written(command, lines):
     """What is typed to a command and what it writes, by the lines that are shown below it."""
-    if "live_folder.py" in command:
-        typed = [line[2:] for line in lines if line.startswith("> ")]
-        written = "".join("> " if line.startswith("> ") else line + "\n" for line in lines)
-        return "".join(line + "\n" for line in typed + [""]), written + "> "
     answers = [at for at, line in enumerate(lines) if re.fullmatch(r"search \d+ version \d+ lines \d+", line)]
     start = answers[0] if "--live" in command.split() and answers else 0
     return "".join(line + "\n" for line in lines[:start]), "".join(line + "\n" for line in lines[start:])
@@ -351,7 +346,7 @@ def compare_command(folder, command, lines):
 
 def compare_readme(base):
     shown = list(commands_shown(base.with_name("README.md").read_text()))
-    for way in ("| ./tsearch", "./tsearch --live", "./tgrep ", "examples/live_folder.py"):
+    for way in ("./tsearch --live", "./tgrep "):
         if not any(way in command for command, _ in shown):
             raise Wrong(f"no command has {way!r}")
     with tempfile.TemporaryDirectory() as folder:

@@ -10,8 +10,7 @@ use Rattle.std.proofs.lemmas.List.Kept.{AllPairs-filter}
 use Rattle.std.proofs.lemmas.List.Quantifiers.{all_pairs_push}
 use Rattle.posting.proofs.Rising.{rising-push}
 use Rattle.index.specs.Text.{IsName, IsBody}
-use Rattle.index.specs.Documents.{Document, document, document_at, number_of, without, with_body}
-use Rattle.index.specs.State.{state, body_bytes, IsGoodDocument, IsState}
+use Rattle.index.specs.Private.Numbered.{Document, document, document_at, number_of, without, with_body, state, body_bytes, IsGoodDocument, IsState}
 use Rattle.index.specs.Private.Slots.{without_number, with_body_at}
 use Rattle.index.proofs.DocumentLemmas.{same_name, bytes_eq-refl, bytes_eq-sym, Contains-number_of, Contains-untaken, filter_same}
 use Rattle.index.proofs.DocumentLemmas.{replaced-same, numbers-replaced, All-replaced}

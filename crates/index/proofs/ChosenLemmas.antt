@@ -18,9 +18,9 @@ use Rattle.std.proofs.lemmas.List.Sorted.{IsPermutation-keeps, IsPermutation-map
 use Rattle.posting.specs.ListValue.{has}
 use Rattle.posting.proofs.SetLemmas.{contains-has}
 use Rattle.index.specs.declared.document.SharedDocument.{SharedDocument}
-use Rattle.index.specs.Documents.{Document, document, document_at, is_under, AreFirstInNameOrder, IsInNameOrder}
+use Rattle.index.specs.Private.Numbered.{Document, document, document_at, is_under, AreFirstInNameOrder, IsInNameOrder}
 use Rattle.prefixes.specs.Under.{begins_with}
-use Rattle.index.specs.Shared.{document_of, documents_shared}
+use Rattle.index.specs.Private.Numbered.{document_of, documents_shared}
 use Rattle.index.specs.Private.Chosen.{numbered_document, document_numbered, documents_numbered}
 use Rattle.index.proofs.DocumentLemmas.{same_name, filter_same}
 use Rattle.index.proofs.StoredLemmas.{Numbered, document_at-none}

@@ -1,13 +1,12 @@
 -- Names, and which documents a list has.
-use Rattle.std.proofs.Common.{◌≡◌, ℕ, zero, suc, ◌<◌, ◌||◌, ◌⊎◌, inl, inr, Bool, true, false, cond, List, [], ◌∷◌, ◌++◌, map, length, get_or}
-use Rattle.std.proofs.Common.{Option, Some, None, Contains, refl, sym, ◌∙◌, ap, subst, arith}
+use Rattle.std.proofs.Common.{◌≡◌, ℕ, zero, suc, ◌<◌, ◌⊎◌, inl, inr, Bool, true, false, cond, List, [], ◌∷◌, map, length, get_or}
+use Rattle.std.proofs.Common.{Some, Contains, refl, sym, ◌∙◌, ap, subst, arith}
 use Rattle.std.specs.Prelude.{All, bytes_eq, filter, is_some}
 use Rattle.std.specs.Cmp.Lexicographic.{bytes_decides}
 use Rattle.std.proofs.lemmas.Cmp.{nat_list_eq_equiv}
 use Rattle.std.proofs.lemmas.Bool.{false≢true}
 use Rattle.std.proofs.lemmas.List.Elements.{All-map}
-use Rattle.index.specs.declared.command.Command.{Command}
-use Rattle.index.specs.Documents.{Document, document, bears_on, one_bears_on, number_of, is_taken}
+use Rattle.index.specs.Private.Numbered.{Document, document, number_of, is_taken}
 pub use Rattle.query.proofs.OrderLemmas.{Contains-filter, Contains-from_filter as filter-Contains}
 
 pub same_name : (x y : List ℕ) → bytes_eq x y ≡ true → x ≡ y
@@ -18,19 +17,6 @@ bytes_eq-refl x = nat_list_eq_equiv.refl x
 
 pub bytes_eq-sym : (x y : List ℕ) → bytes_eq x y ≡ bytes_eq y x
 bytes_eq-sym x y = nat_list_eq_equiv.symm x y
-
-pub one_bears_on-push : (c : List Command) (command : Command) (name : List ℕ) → one_bears_on (c ++ command ∷ []) name ≡ (one_bears_on c name || bears_on command name)
-unfolding one_bears_on
-one_bears_on-push [] command name = or_none (bears_on command name)
-  where
-    or_none : (a : Bool) → (a || false) ≡ a
-    or_none true = refl
-    or_none false = refl
-one_bears_on-push (first ∷ c) command name = rw (one_bears_on-push c command name) (or_assoc (bears_on first name) (one_bears_on c name) (bears_on command name))
-  where
-    or_assoc : (a b d : Bool) → (a || (b || d)) ≡ ((a || b) || d)
-    or_assoc true b d = refl
-    or_assoc false b d = refl
 
 -- ---- which elements a list has
 
@@ -63,6 +49,19 @@ map-Contains f (x ∷ xs) y h =
       | inr rest ↦ (let at = map-Contains f xs y rest in (at.0, Contains-tail x xs at.0 at.1, at.2))
     ]
 
+pub map_twice : {X Y Z : Type 0} (f : X → Y) (g : Y → Z) (xs : List X) → map g (map f xs) ≡ map (λ x. g (f x)) xs
+map_twice f g [] = refl
+map_twice f g (x ∷ xs) = ap (λ ys. g (f x) ∷ ys) (map_twice f g xs)
+
+pub filter_mapped : {X Y : Type 0} (f : X → Y) (p : Y → Bool) (xs : List X) → filter p (map f xs) ≡ map f (filter (λ x. p (f x)) xs)
+filter_mapped f p [] = refl
+filter_mapped f p (x ∷ xs) = go (p (f x)) (filter_mapped f p xs)
+  where
+    go : (t : Bool) → filter p (map f xs) ≡ map f (filter (λ y. p (f y)) xs)
+        → cond t (f x ∷ filter p (map f xs)) (filter p (map f xs)) ≡ map f (cond t (x ∷ filter (λ y. p (f y)) xs) (filter (λ y. p (f y)) xs))
+    go true e = ap (λ ys. f x ∷ ys) e
+    go false e = e
+
 -- ---- documents by their names
 
 -- a number that is found is that of a document
@@ -84,16 +83,6 @@ Contains-number_of (first ∷ others) name number e = go (bytes_eq first.name na
               (subst (λ n. Contains (first ∷ others) (document first.number n first.body)) named (Contains-head first others)),
         )
     go false same deeper found = let rest = deeper found in (rest.0, Contains-tail first others (document number name rest.0) rest.1)
-
--- a name that is taken is that of a document
-pub taken-Contains : (name : List ℕ) (documents : List Document) → is_taken name documents ≡ true
-    → (number : ℕ) × (body : List ℕ) × Contains documents (document number name body)
-taken-Contains name documents taken = go (number_of name documents) refl taken
-  where
-    go : (found : Option ℕ) → number_of name documents ≡ found → is_some found ≡ true
-        → (number : ℕ) × (body : List ℕ) × Contains documents (document number name body)
-    go None e taken = absurd (false≢true taken)
-    go (Some number) e taken = let at = Contains-number_of documents name number e in (number, at.0, at.1)
 
 pub Contains-untaken : (name : List ℕ) (documents : List Document) → is_taken name documents ≡ false → (d : Document) → Contains documents d
     → bytes_eq d.name name ≡ false

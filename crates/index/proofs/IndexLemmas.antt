@@ -10,8 +10,8 @@ use Rattle.std.proofs.lemmas.List.Elements.{All-nil}
 use Rattle.index.specs.Text.{IsName, IsBody}
 use Rattle.index.specs.declared.command.Command.TheVariants.{Put}
 use Rattle.index.specs.declared.store.Store.{Store}
-use Rattle.index.specs.Documents.{Document, document, number_of, without, with_body}
-use Rattle.index.specs.State.{State, state, applied, body_bytes, IsGoodDocument, IsState}
+use Rattle.index.specs.Private.Numbered.{Document, document, number_of, without, with_body}
+use Rattle.index.specs.Private.Numbered.{State, state, applied, body_bytes, IsGoodDocument, IsState}
 use Rattle.index.specs.Private.Slots.{without_number, with_body_at}
 use Rattle.index.specs.Private.Store.{stored, IsStore, IsIndex}
 use Rattle.index.proofs.DocumentLemmas.{number_of-replaced}

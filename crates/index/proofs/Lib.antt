@@ -1,7 +1,6 @@
 pub mod DocumentLemmas
 pub mod LineLemmas
 pub mod NameLemmas
-pub mod PutLemmas
 pub mod StateLemmas
 pub mod RisingLemmas
 pub mod SlotLemmas
@@ -13,4 +12,7 @@ pub mod OrderLemmas
 mod PrefixLemmas
 mod ChosenLemmas
 pub mod IndexLemmas
+pub mod ListedLemmas
+pub mod LawLemmas
+pub mod PlainLemmas
 pub mod RemovedLemmas

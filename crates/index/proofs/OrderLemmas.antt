@@ -23,7 +23,7 @@ use Rattle.std.proofs.lemmas.Option.{slice_get_within, get_or_from_slice_get, so
 use Rattle.std.specs.Cmp.{both_ways}
 use Rattle.std.proofs.Math.Bool.{or-true}
 use Rattle.index.specs.declared.sets.Sets.{Sets}
-use Rattle.index.specs.Documents.{Document, document, document_at, number_of, meets, is_picked, is_under, IsInNameOrder, RisesByName}
+use Rattle.index.specs.Private.Numbered.{Document, document, document_at, number_of, meets, is_picked, is_under, IsInNameOrder, RisesByName}
 use Rattle.index.specs.Text.{IsName}
 use Rattle.prefixes.specs.Under.{begins_with}
 use Rattle.index.proofs.UnderLemmas.{picked, picked-first, filter_after}

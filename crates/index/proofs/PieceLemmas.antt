@@ -11,9 +11,9 @@ use Rattle.posting.proofs.Fillings.{one_of_two, or_left, or_right, and_left, and
 use Rattle.index.specs.declared.sets.Sets.{Sets}
 use Rattle.index.specs.declared.sets.Waiting.{Waiting}
 use Rattle.index.specs.declared.sets.Waiting.TheVariants.{One, From}
-use Rattle.index.specs.Documents.{Document, document_at}
+use Rattle.index.specs.Private.Numbered.{Document, document_at}
 use Rattle.index.specs.Private.Slots.{without_number, with_body_at}
-use Rattle.index.specs.Private.Sets.{trigrams_shown, trigrams_at, trigrams_before, is_whole, is_left, still_waiting, AreSetsOf}
+use Rattle.index.specs.Private.Sets.{trigrams_shown, trigrams_at, trigrams_before, is_whole, is_left, still_waiting, waiting_from, AreSetsOf}
 use Rattle.index.proofs.DocumentLemmas.{numbers-replaced}
 use Rattle.index.proofs.StoredLemmas.{document_at-kept, numbers-kept, document_at-replaced}
 
@@ -166,10 +166,17 @@ module _ (ds : List Document) (number from : ℕ) (old : Option (List ℕ)) (old
 
 -- ---- all from a number on wait
 
+never_below : (t : ℕ) → nat_lt t 0 ≡ false
+never_below t = go (nat_lt t 0) refl
+  where
+    go : (b : Bool) → nat_lt t 0 ≡ b → b ≡ false
+    go true e = let less : t < 0 = grind (arith, nat_tests) in absurd (omega arith)
+    go false e = refl
+
 -- a number that no document has
-module _ (ds : List Document) (number first : ℕ) (news : List ℕ) (before after : Sets) (kept : AreSetsOf ds before) (waits : before.waiting ≡ Some (From first))
-    (news_are : (t : ℕ) → has news t ≡ trigrams_at ds number t) (live : after.live.members ≡ before.live.members)
-    (moved : MovesNumber before.postings after.postings number [] news) where
+module _ (ds : List Document) (number first from : ℕ) (news : List ℕ) (before after : Sets) (kept : AreSetsOf ds before)
+    (waits : before.waiting ≡ Some (From first from)) (news_are : (t : ℕ) → has news t ≡ trigrams_at ds number t)
+    (live : after.live.members ≡ before.live.members) (moved : MovesNumber before.postings after.postings number [] news) where
   held_there : (t n : ℕ) → holds after.postings t n ≡ true → trigrams_at ds n t ≡ true
   held_there t n held =
       one_of_two (holds before.postings t n) ((has news t && not (has [] t)) && number == n) (moved.grown t n held)
@@ -187,51 +194,76 @@ module _ (ds : List Document) (number first : ℕ) (news : List ℕ) (before aft
       one_of_two (holds after.postings t n) ((has [] t && not (has news t)) && number == n) (moved.kept t n held) (λ still. still)
       (λ gone. absurd (false≢true gone))
 
-  below : (t n : ℕ) → nat_lt n first ≡ true → holds after.postings t n ≡ trigrams_at ds n t
-  below t n low =
-      both_ways (holds after.postings t n) (trigrams_at ds n t) (held_there t n)
-      (λ there. stays_there t n (kept.postings t n (ap (λ w. is_whole w t n) waits ∙ low) ∙ there))
+  whole_still : (t n : ℕ) → is_whole before.waiting t n ≡ true → holds after.postings t n ≡ trigrams_at ds n t
+  whole_still t n whole =
+      both_ways (holds after.postings t n) (trigrams_at ds n t) (held_there t n) (λ there. stays_there t n (kept.postings t n whole ∙ there))
 
   -- the sets where memory ran out: it still waits
   pub AreSetsOf-still : after.waiting ≡ before.waiting → AreSetsOf ds after
   AreSetsOf-still same = record {
     live = live ∙ kept.live;
-    postings = λ t n whole. below t n (sym (ap (λ w. is_whole w t n) (same ∙ waits)) ∙ whole);
+    postings = λ t n whole. whole_still t n (sym (ap (λ w. is_whole w t n) same) ∙ whole);
     few = λ t n held. or_left (trigrams_at ds n t) (is_left after.waiting t n) (held_there t n held);
     both = λ t n left there. absurd (false≢true (sym (ap (λ w. is_left w t n) (same ∙ waits)) ∙ left));
   }
 
-  -- the sets after it was put into all of its own
-  pub AreSetsOf-next : ((t : ℕ) → has news t ≡ true → holds after.postings t number ≡ true)
-      → ((n : ℕ) → first ≤ n → n < number → document_at n ds ≡ None) → after.waiting ≡ Some (From (number + 1)) → AreSetsOf ds after
-  AreSetsOf-next put none now = record {
+  none_left_from : (t n : ℕ) (next : Option ℕ) → is_left (Some (waiting_from number next)) t n ≡ false
+  none_left_from t n None = refl
+  none_left_from t n (Some m) = refl
+
+  come_to : (t n : ℕ) (next : Option ℕ) → is_whole (Some (waiting_from number next)) t n ≡ true → (n == number) ≡ true → is_before next t ≡ true
+  come_to t n None whole e = refl
+  come_to t n (Some m) whole e =
+      one_of_two (nat_lt n number) ((n == number) && nat_lt t m) whole (λ less. both less)
+      (λ here. and_right (n == number) (nat_lt t m) here)
+    where
+      both : nat_lt n number ≡ true → nat_lt t m ≡ true
+      both less = let same : n ≡ number = grind (arith, nat_tests) in let under : n < number = grind (arith, nat_tests) in absurd (omega (arith, same, under))
+
+  lower : (t n : ℕ) (next : Option ℕ) → is_whole (Some (waiting_from number next)) t n ≡ true → (n == number) ≡ false → n < number
+  lower t n None whole e =
+      one_of_two (nat_lt n (number + 1)) ((n == number + 1) && nat_lt t 0) whole
+      (λ less. (let under : n < number + 1 = grind (arith, nat_tests) in let other : n ≢ number = grind (arith, nat_tests) in omega (arith, under, other)))
+      (λ here. absurd (false≢true (sym (never_below t) ∙ and_right (n == number + 1) (nat_lt t 0) here)))
+  lower t n (Some m) whole e =
+      one_of_two (nat_lt n number) ((n == number) && nat_lt t m) whole (λ less. (let under : n < number = grind (arith, nat_tests) in under))
+      (λ here. absurd (false≢true (sym e ∙ and_left (n == number) (nat_lt t m) here)))
+
+  -- the sets after a piece: it was put into those of its own from a trigram on up to the next one
+  pub AreSetsOf-next : (start : ℕ) (next : Option ℕ) → ((t : ℕ) → nat_lt t start ≡ true → is_whole before.waiting t number ≡ true)
+      → ((t : ℕ) → start ≤ t → is_before next t ≡ true → has news t ≡ true → holds after.postings t number ≡ true)
+      → ((n : ℕ) → first ≤ n → n < number → document_at n ds ≡ None) → after.waiting ≡ Some (waiting_from number next) → AreSetsOf ds after
+  AreSetsOf-next start next started put none now = record {
     live = live ∙ kept.live;
     postings = λ t n whole. postings t n (sym (ap (λ w. is_whole w t n) now) ∙ whole) (nat_lt n first) refl (n == number) refl;
     few = λ t n held. or_left (trigrams_at ds n t) (is_left after.waiting t n) (held_there t n held);
-    both = λ t n left there. absurd (false≢true (sym (ap (λ w. is_left w t n) now) ∙ left));
+    both = λ t n left there. absurd (false≢true (sym (none_left_from t n next) ∙ (sym (ap (λ w. is_left w t n) now) ∙ left)));
   }
     where
-      postings : (t n : ℕ) → nat_lt n (number + 1) ≡ true → (low : Bool) → nat_lt n first ≡ low → (here : Bool) → (n == number) ≡ here
-          → holds after.postings t n ≡ trigrams_at ds n t
-      postings t n whole true e here f = below t n e
+      reached : (t : ℕ) → is_before next t ≡ true → (low : Bool) → nat_lt t start ≡ low → holds after.postings t number ≡ trigrams_at ds number t
+      reached t low true e = whole_still t number (started t e)
+      reached t low false e =
+          let high : start ≤ t = grind (arith, nat_tests) in
+          both_ways (holds after.postings t number) (trigrams_at ds number t) (held_there t number) (λ there. put t high low (news_are t ∙ there))
+
+      postings : (t n : ℕ) → is_whole (Some (waiting_from number next)) t n ≡ true → (low : Bool) → nat_lt n first ≡ low → (here : Bool)
+          → (n == number) ≡ here → holds after.postings t n ≡ trigrams_at ds n t
+      postings t n whole true e here f =
+          whole_still t n (ap (λ w. is_whole w t n) waits ∙ or_left (nat_lt n first) ((n == first) && nat_lt t from) e)
       postings t n whole false e true f =
           let same : n ≡ number = grind (arith, nat_tests) in
-          both_ways (holds after.postings t n) (trigrams_at ds n t) (held_there t n)
-          (λ there. ap (λ m. holds after.postings t m) same ∙ put t (news_are t ∙ (ap (λ m. trigrams_at ds m t) (sym same) ∙ there)))
+          subst (λ m. holds after.postings t m ≡ trigrams_at ds m t) (sym same) (reached t (come_to t n next whole f) (nat_lt t start) refl)
       postings t n whole false e false f =
           let high : first ≤ n = grind (arith, nat_tests) in
-          let less : n < number + 1 = grind (arith, nat_tests) in
-          let other : n ≢ number = grind (arith, nat_tests) in
-          let absent : document_at n ds ≡ None =
-          none n high (omega (arith, less, other)) in
+          let absent : document_at n ds ≡ None = none n high (lower t n next whole f) in
           both_ways (holds after.postings t n) (trigrams_at ds n t) (held_there t n)
           (λ there. absurd (false≢true (sym (ap (λ found. trigrams_shown found t) absent) ∙ there)))
 
 -- none waits any more if none has a number from there on
-pub AreSetsOf-done : (ds : List Document) (first : ℕ) (before after : Sets) → AreSetsOf ds before → before.waiting ≡ Some (From first)
+pub AreSetsOf-done : (ds : List Document) (first from : ℕ) (before after : Sets) → AreSetsOf ds before → before.waiting ≡ Some (From first from)
     → ((n : ℕ) → first ≤ n → document_at n ds ≡ None) → after.live.members ≡ before.live.members → after.postings ≡ before.postings
     → after.waiting ≡ None → AreSetsOf ds after
-AreSetsOf-done ds first before after kept waits none live same now = record {
+AreSetsOf-done ds first from before after kept waits none live same now = record {
   live = live ∙ kept.live;
   postings = λ t n whole. ap (λ sets. holds sets t n) same ∙ postings t n (nat_lt n first) refl;
   few = λ t n held. or_left (trigrams_at ds n t) (is_left after.waiting t n) (shown t n (sym (ap (λ sets. holds sets t n) same) ∙ held));
@@ -244,7 +276,7 @@ AreSetsOf-done ds first before after kept waits none live same now = record {
         (λ left. absurd (false≢true (sym (ap (λ w. is_left w t n) waits) ∙ left)))
 
     postings : (t n : ℕ) → (low : Bool) → nat_lt n first ≡ low → holds before.postings t n ≡ trigrams_at ds n t
-    postings t n true e = kept.postings t n (ap (λ w. is_whole w t n) waits ∙ e)
+    postings t n true e = kept.postings t n (ap (λ w. is_whole w t n) waits ∙ or_left (nat_lt n first) ((n == first) && nat_lt t from) e)
     postings t n false e =
         let high : first ≤ n = grind (arith, nat_tests) in
         let absent : document_at n ds ≡ None = none n high in
@@ -252,13 +284,6 @@ AreSetsOf-done ds first before after kept waits none live same now = record {
         (λ there. absurd (false≢true (sym (ap (λ found. trigrams_shown found t) absent) ∙ there)))
 
 -- ---- one begins to wait
-
-never_below : (t : ℕ) → nat_lt t 0 ≡ false
-never_below t = go (nat_lt t 0) refl
-  where
-    go : (b : Bool) → nat_lt t 0 ≡ b → b ≡ false
-    go true e = let less : t < 0 = grind (arith, nat_tests) in absurd (omega arith)
-    go false e = refl
 
 pub waits_alone : (waiting : Option Waiting) (number t n : ℕ) (old : Option (List ℕ)) → waiting ≡ None → is_whole (Some (One number 0 old)) t n ≡ true
     → (is_whole waiting t n ≡ true) × ((number == n) ≡ false)
@@ -269,12 +294,37 @@ waits_alone waiting number t n old none whole = (ap (λ w. is_whole w t n) none,
     cases false e is = grind (arith, nat_tests)
 
 pub waits_beside : (waiting : Option Waiting) (others : Waiting) (first low number t n : ℕ) → waiting ≡ Some others
-    → ((u m : ℕ) → nat_lt m first ≡ true → is_whole (Some others) u m ≡ true) → low ≤ first → low ≤ number → nat_lt n low ≡ true
+    → ((u m : ℕ) → nat_lt m first ≡ true → is_whole (Some others) u m ≡ true) → low ≤ first → low ≤ number → is_whole (Some (From low 0)) t n ≡ true
     → (is_whole waiting t n ≡ true) × ((number == n) ≡ false)
-waits_beside waiting others first low number t n is whole below under less =
+waits_beside waiting others first low number t n is whole below under there =
+    let less : nat_lt n low ≡ true =
+    one_of_two (nat_lt n low) ((n == low) && nat_lt t 0) there (λ less. less)
+    (λ here. absurd (false≢true (sym (never_below t) ∙ and_right (n == low) (nat_lt t 0) here))) in
     let here : nat_lt n first ≡ true = grind (arith, nat_tests) in
     let other : (number == n) ≡ false = grind (arith, nat_tests) in
     (ap (λ w. is_whole w t n) is ∙ whole t n here, other)
+
+-- one is the first of those that wait, in so many sets, and the next one waits with it
+pub waits_on : (waiting : Option Waiting) (first from number t n : ℕ) → waiting ≡ Some (From first from) → first < number
+    → is_whole (Some (From first from)) t n ≡ true → (is_whole waiting t n ≡ true) × ((number == n) ≡ false)
+waits_on waiting first from number t n is under whole = (ap (λ w. is_whole w t n) is ∙ whole, cases (nat_lt n first) refl)
+  where
+    cases : (low : Bool) → nat_lt n first ≡ low → (number == n) ≡ false
+    cases true e = grind (arith, nat_tests)
+    cases false e =
+        let here : (n == first) ≡ true =
+        one_of_two (nat_lt n first) ((n == first) && nat_lt t from) whole (λ less. absurd (false≢true (sym e ∙ less)))
+        (λ both. and_left (n == first) (nat_lt t from) both) in
+        let same : n ≡ first = grind (arith, nat_tests) in
+        grind (arith, nat_tests)
+
+-- if the one that is in some of its sets is in none any more, it waits with all its trigrams; so do the others
+pub waits_again : (waiting : Option Waiting) (first from number t n : ℕ) → waiting ≡ Some (From first from) → first ≡ number
+    → is_whole (Some (From first 0)) t n ≡ true → (is_whole waiting t n ≡ true) × ((number == n) ≡ false)
+waits_again waiting first from number t n is same whole = one_of_two (nat_lt n first) ((n == first) && nat_lt t 0) whole low (λ here. absurd (false≢true (sym (never_below t) ∙ and_right (n == first) (nat_lt t 0) here)))
+  where
+    low : nat_lt n first ≡ true → (is_whole waiting t n ≡ true) × ((number == n) ≡ false)
+    low less = (ap (λ w. is_whole w t n) is ∙ or_left (nat_lt n first) ((n == first) && nat_lt t from) less, grind (arith, nat_tests))
 
 -- a new document has had no body before
 pub none_before : (number t n : ℕ) → is_left (Some (One number 0 None)) t n ≡ false

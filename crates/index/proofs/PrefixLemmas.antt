@@ -15,7 +15,7 @@ use Rattle.posting.specs.ListValue.{has}
 use Rattle.prefixes.specs.Under.{begins_with, is_under_one}
 use Rattle.prefixes.specs.Private.Apart.{AreApart, bytes_of}
 use Rattle.prefixes.proofs.UnderLemmas.{ahead_names}
-use Rattle.index.specs.Documents.{Document, is_chosen, is_picked, AreFirstInNameOrder, IsInNameOrder, RisesByName}
+use Rattle.index.specs.Private.Numbered.{Document, is_chosen, is_picked, AreFirstInNameOrder, IsInNameOrder, RisesByName}
 use Rattle.index.proofs.DocumentLemmas.{Contains-cons, Contains-head, Contains-tail, filter-Contains, Contains-filter}
 
 -- ---- lists of documents, one after the other

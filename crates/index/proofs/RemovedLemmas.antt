@@ -11,7 +11,7 @@ use Rattle.std.specs.declared.cmp.Ordering.TheVariants.{Less, Equal, Greater}
 use Rattle.std.proofs.lemmas.Bool.{false≢true}
 use Rattle.std.proofs.lemmas.Option.{some_pair_parts}
 use Rattle.prefixes.specs.Under.{begins_with}
-use Rattle.index.specs.Documents.{Document, document, document_at, number_of, has_under, is_under, without, without_under}
+use Rattle.index.specs.Private.Numbered.{Document, document, document_at, number_of, has_under, is_under, without, without_under}
 use Rattle.index.proofs.DocumentLemmas.{same_name, bytes_eq-refl, Contains-number_of}
 use Rattle.index.proofs.StoredLemmas.{Numbered}
 use Rattle.index.proofs.OrderLemmas.{document_at-Contains}

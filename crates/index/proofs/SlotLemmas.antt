@@ -14,7 +14,7 @@ use Rattle.posting.proofs.Rising.{rising-push}
 use Rattle.index.proofs.RisingLemmas.{below_later, rise-filter}
 use Rattle.index.specs.declared.slots.Slot.{Slot}
 use Rattle.index.specs.declared.slots.Occupant.{Occupant}
-use Rattle.index.specs.Documents.{Document, document, document_at}
+use Rattle.index.specs.Private.Numbered.{Document, document, document_at}
 use Rattle.index.specs.Private.Slots.{documents_of_slot, documents_in, numbers_in, RiseTo, texts_of, without_number, with_body_at}
 
 -- ---- the numbers rise

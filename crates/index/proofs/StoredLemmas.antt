@@ -25,12 +25,12 @@ use Rattle.posting.proofs.Fillings.{or_left, or_right}
 use Rattle.index.specs.declared.slots.Slot.{Slot}
 use Rattle.index.specs.declared.slots.Occupant.{Occupant}
 use Rattle.index.specs.declared.sets.Sets.{Sets}
+use Rattle.index.specs.declared.sets.Waiting.TheVariants.{From}
 use Rattle.index.specs.declared.sets.Change.{Change}
 use Rattle.index.specs.declared.store.Store.{Store}
-use Rattle.index.specs.Documents.{Document, document, document_at}
-use Rattle.index.specs.State.{body_bytes}
+use Rattle.index.specs.Private.Numbered.{Document, document, document_at, body_bytes}
 use Rattle.index.specs.Private.Slots.{documents_of_slot, documents_in, numbers_in, RiseTo, FewAreEmpty, without_number, with_body_at}
-use Rattle.index.specs.Private.Sets.{IsNew, IsChange, trigrams_shown, trigrams_at, is_whole, is_left, NoneIsLeft, is_waiting, AreSetsOf}
+use Rattle.index.specs.Private.Sets.{IsNew, IsChange, trigrams_shown, trigrams_at, is_whole, is_left, NoneIsLeft, is_waiting, AreSetsOf, IsAmongWaiting, WaitsWhole}
 use Rattle.index.specs.Private.Store.{stored, IsStore, IsReadyFor}
 use Rattle.index.proofs.DocumentLemmas.{numbers-replaced}
 use Rattle.index.proofs.RisingLemmas.{below_later}
@@ -697,27 +697,42 @@ lists_nothing none e =
 
 -- the sets after they are emptied
 pub AreSetsOf-over : (ds : List Document) (old new : Sets) → AreSetsOf ds old → new.live ≡ old.live
-    → ((t n : ℕ) → holds new.postings t n ≡ false) → ((t n : ℕ) → is_whole new.waiting t n ≡ false) → NoneIsLeft new.waiting → AreSetsOf ds new
-AreSetsOf-over ds old new kept live none waits none_left = record {
+    → ((t n : ℕ) → holds new.postings t n ≡ false) → new.waiting ≡ Some (From 0 0) → AreSetsOf ds new
+AreSetsOf-over ds old new kept live none waits = record {
   live = ap (λ l. l.members) live ∙ kept.live;
-  postings = λ t n whole. absurd (false≢true (sym (waits t n) ∙ whole));
+  postings = λ t n whole. absurd (false≢true (sym (all_wait t n (nat_lt n 0) refl (nat_lt t 0) refl) ∙ (sym (ap (λ w. is_whole w t n) waits) ∙ whole)));
   few = λ t n held. absurd (false≢true (sym (none t n) ∙ held));
-  both = λ t n left there. absurd (false≢true (sym (none_left t n) ∙ left));
+  both = λ t n left there. absurd (false≢true (sym (ap (λ w. is_left w t n) waits) ∙ left));
 }
+  where
+    never : (n : ℕ) → nat_lt n 0 ≡ true → ⊥
+    never n low = let less : n < 0 = grind (arith, nat_tests) in omega arith
+
+    all_wait : (t n : ℕ) (a : Bool) → nat_lt n 0 ≡ a → (b : Bool) → nat_lt t 0 ≡ b → is_whole (Some (From 0 0)) t n ≡ false
+    all_wait t n true e b f = absurd (never n e)
+    all_wait t n false e true f = absurd (never t f)
+    all_wait t n false e false f = rw (e, f) (nothing (n == 0))
+      where
+        nothing : (b : Bool) → (false || (b && false)) ≡ false
+        nothing true = refl
+        nothing false = refl
 
 -- the sets after the body of a document that waits is replaced
 pub AreSetsOf-waits : (ds : List Document) (number : ℕ) (name old_body body trigrams : List ℕ) (old new : Sets) → AreSetsOf ds old
     → document_at number ds ≡ Some (name, old_body) → ListsTrigrams old_body trigrams
-    → ((t : ℕ) → is_whole old.waiting t number ≡ false) → NoneIsLeft old.waiting → new.live.members ≡ old.live.members → new.waiting ≡ old.waiting
+    → IsAmongWaiting number old.waiting → WaitsWhole number old.waiting new.waiting → new.live.members ≡ old.live.members
     → ((t n : ℕ) → holds new.postings t n ≡ (holds old.postings t n && not (has trigrams t && n == number)))
     → AreSetsOf (map (with_body_at number body) ds) new
-AreSetsOf-waits ds number name old_body body trigrams old new kept at lists waits none_left live waiting sets = record {
+AreSetsOf-waits ds number name old_body body trigrams old new kept at lists among waits live sets = record {
   live = live ∙ (kept.live ∙ sym (numbers-replaced (λ d. d.number == number) body ds));
   postings = λ t n whole. there t n whole (n == number) refl;
   few = λ t n held. or_left (trigrams_at (map (with_body_at number body) ds) n t) (is_left new.waiting t n) (still t n held (n == number) refl);
-  both = λ t n left there. absurd (false≢true (sym (none_left t n) ∙ (sym (ap (λ w. is_left w t n) waiting) ∙ left)));
+  both = λ t n left there. absurd (false≢true (sym (waits.none_left t n) ∙ left));
 }
   where
+    none_left : NoneIsLeft old.waiting
+    none_left t n = ap (λ w. is_left w t n) among.is
+
     left_as : (was f : Bool) → (was && not (f && false)) ≡ was
     left_as true true = refl
     left_as true false = refl
@@ -742,12 +757,12 @@ AreSetsOf-waits ds number name old_body body trigrams old new kept at lists wait
     there : (t n : ℕ) → is_whole new.waiting t n ≡ true → (same : Bool) → (n == number) ≡ same
         → holds new.postings t n ≡ trigrams_at (map (with_body_at number body) ds) n t
     there t n whole true e =
-        let same : n ≡ number = grind (arith, nat_tests) in
-        absurd (false≢true (sym (waits t) ∙ (ap (is_whole old.waiting t) (sym same) ∙ (ap (λ w. is_whole w t n) (sym waiting) ∙ whole))))
+        let other : (number == n) ≡ false = (waits.others t n whole).1 in
+        absurd (grind (arith, nat_tests))
     there t n whole false e =
         sets_are t n false e
         ∙ (left_as (holds old.postings t n) (has trigrams t)
-        ∙ (kept.postings t n (ap (λ w. is_whole w t n) (sym waiting) ∙ whole) ∙ ap (λ found. trigrams_shown found t) (sym (other_at n e))))
+        ∙ (kept.postings t n (waits.others t n whole).0 ∙ ap (λ found. trigrams_shown found t) (sym (other_at n e))))
 
     still : (t n : ℕ) → holds new.postings t n ≡ true → (same : Bool) → (n == number) ≡ same
         → trigrams_at (map (with_body_at number body) ds) n t ≡ true

@@ -6,8 +6,7 @@ use crate::name::Name;
 /// A command on the documents.
 #[derive(Debug, Drop)]
 pub enum Command {
-    /// Puts in a document with this name and body. If a document has the name already, its body is replaced, and its
-    /// number stays.
+    /// Puts in a document with this name and body. If a document has the name already, its body is replaced.
     Put(Name, Body),
     /// Removes the document with this name. If there is none, no document changes.
     Remove(Name),

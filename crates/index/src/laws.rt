@@ -1,16 +1,15 @@
 //! What is known of the documents that commands leave.
 
-ghost use Rattle.std.specs.Prelude.{◌≡◌, List, [], ◌∷◌, ◌++◌, map, Contains, ◌↔◌};
-ghost use Rattle.std.specs.List.Sorted.{IsStrictlyIncreasing};
+ghost use Rattle.std.specs.Prelude.{◌≡◌, List, [], ◌∷◌, ◌++◌, Contains, ◌↔◌};
 ghost use Rattle.index.specs.declared.command.Command.{Command as CommandValue};
-ghost use Rattle.index.specs.Documents.{Document, documents_of, IsDocument};
-ghost use Rattle.index.specs.State.{State, state_of, applied, IsState};
+ghost use Rattle.index.specs.Documents.{Document, RisesByName, listed, documents_of, IsPutLast};
+ghost use Rattle.index.specs.State.{State, state_of, applied};
 
-/// The documents are exactly what the last and the first `Put`s of each name say, each once: see `IsDocument`.
+/// The documents are exactly the last `Put`s of names, on which no later command bears, each once: see `IsPutLast`.
 pub fn documents_are_puts()
     ensures which { (commands : List CommandValue) (d : Document) →
-        Contains (documents_of commands) d ↔ IsDocument commands d }
-    ensures once { (commands : List CommandValue) → IsStrictlyIncreasing (map (λ d. d.number) (documents_of commands)) }
+        Contains (listed (documents_of commands)) d ↔ IsPutLast commands d.name d.body }
+    ensures once { (commands : List CommandValue) → RisesByName (listed (documents_of commands)) }
 {}
 
 /// The state after one more command is the state before, with that command applied.

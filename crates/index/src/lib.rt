@@ -5,6 +5,7 @@
 #![tactic(auto)]
 
 mod body;
+mod catalog;
 mod command;
 mod document;
 mod error;
@@ -19,12 +20,11 @@ mod store;
 
 pub use body::{Body, MAX_BODY};
 pub use command::Command;
-pub use document::SharedDocument;
+pub use document::{Candidates, SharedDocument};
 pub use error::{ApplyError, BodyError, BodyErrorKind, HeldError, NameError};
 pub use held::Held;
 pub use index::Index;
 pub use laws::{documents_are_puts, state_follows_commands};
 pub use lengths::{Lengths, USUAL_BODY, USUAL_NAME};
 pub use name::{MAX_NAME, Name};
-pub use posting::List;
 pub use query::Query;

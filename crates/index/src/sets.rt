@@ -2,8 +2,9 @@
 
 ghost use Rattle.std.specs.Prelude.{◌≡◌, ℕ, ◌<◌, All, Some, nat_lt, true, false, not, ◌==◌, ◌||◌, ◌&&◌, [], ◌∷◌, ◌++◌, filter, OnOk, IfOk, IsFalse, None};
 ghost use Rattle.posting.specs.ListValue.{has, without, HasRoom};
-ghost use Rattle.posting.specs.Postings.{holds, SameSets, IsPrepared, IsAbsent, AllDiffer};
-ghost use Rattle.index.specs.Private.Sets.{HasRoomFor, IsNew, IsChange, FollowTakenOut, StayInStep, StayInStepNext, ReachesNext, trigrams_before, is_whole, NoneIsLeft};
+ghost use Rattle.posting.specs.Postings.{holds, SameSets, IsPrepared, IsAbsent, AllDiffer, WithdrawsNumber};
+ghost use Rattle.index.specs.declared.sets.Waiting.TheVariants.{From};
+ghost use Rattle.index.specs.Private.Sets.{HasRoomFor, IsNew, IsChange, FollowTakenOut, StayInStep, StayInStepNext, ReachesNext, IsAmongWaiting, WaitsWhole, waiting_from, trigrams_before, is_whole, NoneIsLeft};
 
 use crate::held::Held;
 use posting::{List, Postings, Trigrams};
@@ -32,8 +33,12 @@ pub(crate) enum Waiting {
         from: u32,
         old: Option<Held>,
     },
-    /// Those from this number on, which are in no sets but those of their trigrams.
-    From(u32),
+    /// Those from the number `first` on, which are in no sets but those of their trigrams. The one with that number, if there is one,
+    /// is in those below `from`.
+    From {
+        first: u32,
+        from: u32,
+    },
 }
 
 /// The numbers of the documents, and for each trigram those of the documents whose body has it.
@@ -124,7 +129,7 @@ impl Sets {
                 old: Some(held),
             });
         } else {
-            self.postings.withdraw(number, trigrams);
+            leave(&mut self.postings, number, trigrams);
         }
     }
 
@@ -159,32 +164,32 @@ impl Sets {
     pub(crate) fn start_over(&mut self, alloc: Global)
         ensures live { self.new.live ≡ self.old.live }
         ensures postings { (t n : ℕ) → holds self.new.postings t n ≡ false }
-        ensures waiting { (t n : ℕ) → is_whole self.new.waiting t n ≡ false }
-        ensures none_left { NoneIsLeft self.new.waiting }
+        ensures waiting { self.new.waiting ≡ Some (From 0 0) }
     {
         self.postings = Postings::new(alloc);
-        self.waiting = Some(Waiting::From(0));
+        self.waiting = Some(Waiting::From { first: 0, from: 0 });
     }
 
-    /// Whether the document with this number waits, with all its trigrams, for `fill`.
+    /// Whether all documents from some number on wait, and the one with this number is among them.
     pub(crate) fn has_waiting(&self, number: u32) -> bool
-        ensures waits { result ≡ true → (t : ℕ) → is_whole self.now.waiting t number ≡ false }
-        ensures none_left { result ≡ true → NoneIsLeft self.now.waiting }
+        ensures { result ≡ true → IsAmongWaiting number self.now.waiting }
     {
         match &self.waiting {
-            Some(Waiting::From(first)) => *first <= number,
+            Some(Waiting::From { first, .. }) => *first <= number,
             _ => false,
         }
     }
 
-    /// Takes the document with this number, which waits, out of the sets of these trigrams, which are those of its body.
+    /// Takes the document with this number, which waits, out of the sets of these trigrams, which are those of its body. It then
+    /// waits with all its trigrams.
     pub(crate) fn withdraw(&mut self, number: u32, trigrams: &Trigrams)
         ensures live { self.new.live.members ≡ self.old.live.members }
-        ensures waiting { self.new.waiting ≡ self.old.waiting }
+        ensures waiting { IsAmongWaiting number self.old.waiting → WaitsWhole number self.old.waiting self.new.waiting }
         ensures postings { (trigram n : ℕ) → holds self.new.postings trigram n
             ≡ (holds self.old.postings trigram n && not (has trigrams.now trigram && n == number)) }
     {
-        self.postings.withdraw(number, trigrams);
+        leave(&mut self.postings, number, trigrams);
+        begin_again(&mut self.waiting, number);
     }
 
     /// Goes on with the document that has this number and these trigrams, if it waits alone: puts it into the sets of its trigrams
@@ -225,29 +230,27 @@ impl Sets {
         Ok(left)
     }
 
-    /// Puts the document with this number and these trigrams, the first of those from a number on that wait, into their sets. `none`
-    /// are no trigrams. Returns how much work that was. An `Err` means that memory ran out. It then still waits.
+    /// Goes on with the document that has this number and these trigrams, the first of those from a number on that wait: puts it into
+    /// the sets of its trigrams, in their order, until the work comes to `most`. `none` are no trigrams. Returns how much work that
+    /// was. An `Err` means that memory ran out. It then still waits.
     pub(crate) fn put_next(
         &mut self,
         number: u32,
         trigrams: &Trigrams,
         none: &Trigrams,
+        most: usize,
     ) -> Result<usize, AllocError>
         requires { none.now ≡ [] }
         ensures step { StayInStepNext number trigrams.now self.old self.new }
         ensures work { IfOk result (λ work. 0 < work) }
     {
-        let Some(after) = number.checked_add(1) else {
-            return Err(AllocError);
-        };
+        let from = reached(&self.waiting, number);
         let (next, left) = self
             .postings
-            .move_some(number, none, trigrams, 0, usize::MAX, 0)?;
-        if next.is_some() {
-            return Err(AllocError);
-        }
-        self.waiting = Some(Waiting::From(after));
-        Ok(usize::MAX.saturating_sub(left).max(1))
+            .move_some(number, none, trigrams, from, most, 0)?;
+        let waiting = waiting_after(number, next)?;
+        self.waiting = Some(waiting);
+        Ok(most.saturating_sub(left).max(1))
     }
 
     /// Whether a document that has gone, or whose body was replaced, waits to be taken out of the sets of its trigrams.
@@ -265,8 +268,17 @@ impl Waiting {
     {
         match self {
             Waiting::One { number, .. } => *number,
-            Waiting::From(first) => *first,
+            Waiting::From { first, .. } => *first,
         }
+    }
+}
+
+/// Takes the number out of the sets of these trigrams. Where no set is there yet, they are not gone through.
+fn leave(postings: &mut Postings, number: u32, trigrams: &Trigrams)
+    ensures { WithdrawsNumber postings.old postings.new trigrams.now number }
+{
+    if !postings.is_bare() {
+        postings.withdraw(number, trigrams);
     }
 }
 
@@ -308,6 +320,54 @@ fn with_waiting(waiting: &Option<Waiting>, number: u32) -> Waiting
             from: 0,
             old: None,
         },
-        Some(others) => Waiting::From(others.first().min(number)),
+        Some(Waiting::From { first, from }) if *first < number => Waiting::From {
+            first: *first,
+            from: *from,
+        },
+        Some(others) => Waiting::From {
+            first: others.first().min(number),
+            from: 0,
+        },
+    }
+}
+
+/// Below which trigram the document with this number is in the sets of its trigrams, if it is the first of those from a number on
+/// that wait.
+fn reached(waiting: &Option<Waiting>, number: u32) -> u32
+    ensures { (t : ℕ) → nat_lt t result ≡ true → is_whole waiting.now t number ≡ true }
+{
+    match waiting {
+        Some(Waiting::From { first, from }) if *first == number => *from,
+        _ => 0,
+    }
+}
+
+/// What waits once the document with this number has come to this trigram, or is in all its sets. An `Err` means that no number is
+/// greater.
+fn waiting_after(number: u32, next: Option<u32>) -> Result<Waiting, AllocError>
+    ensures { IfOk result (λ waiting. waiting ≡ waiting_from number next) }
+{
+    let Some(from) = next else {
+        return match number.checked_add(1) {
+            Some(first) => Ok(Waiting::From { first, from: 0 }),
+            None => Err(AllocError),
+        };
+    };
+    Ok(Waiting::From {
+        first: number,
+        from,
+    })
+}
+
+/// Notes that the document with this number, if it is the first of those from a number on that wait, is in no sets any more.
+fn begin_again(waiting: &mut Option<Waiting>, number: u32)
+    ensures { IsAmongWaiting number waiting.old → WaitsWhole number waiting.old waiting.new }
+{
+    if let Some(others) = waiting {
+        if let Waiting::From { first, from } = others {
+            if *first == number {
+                *from = 0;
+            }
+        }
     }
 }

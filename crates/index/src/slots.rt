@@ -3,7 +3,7 @@
 ghost use Rattle.std.specs.Prelude.{◌≡◌, ◌≢◌, ℕ, ◌<◌, ◌≤◌, length, map, option_map, All, IfSome, IfNone, None, slice_index_or};
 ghost use Rattle.std.specs.Vec.{vec_len, vec_capacity};
 ghost use Rattle.index.specs.declared.slots.Slot.{Slot as SlotValue};
-ghost use Rattle.index.specs.Documents.{document_at};
+ghost use Rattle.index.specs.Private.Numbered.{document_at};
 ghost use Rattle.index.specs.Private.Slots.{documents_in, numbers_in, RiseTo, FewAreEmpty, texts_of, without_number, with_body_at};
 
 use crate::held::Held;

@@ -2,11 +2,10 @@
 
 ghost use Rattle.std.specs.Prelude.{◌||◌, ◌≡◌, ℕ, false, ◌+◌, ◌<◌, ◌^◌, List, [], ◌∷◌, ◌++◌, length, map, OnOk, IfOk, IfSome, IsSome, IsTrue, None};
 ghost use Rattle.query.specs.Trigrams.{ListsTrigrams};
-ghost use Rattle.index.specs.Documents.{document, document_at};
-ghost use Rattle.index.specs.State.{body_bytes};
 ghost use Rattle.posting.specs.ListValue.{has};
+ghost use Rattle.index.specs.Private.Numbered.{document, document_at, body_bytes};
 ghost use Rattle.posting.specs.Postings.{is_listed};
-ghost use Rattle.index.specs.Private.Sets.{is_waiting, is_whole, trigrams_at, NoneIsLeft};
+ghost use Rattle.index.specs.Private.Sets.{is_waiting, trigrams_at, IsAmongWaiting, NoneIsLeft};
 ghost use Rattle.index.specs.Private.Slots.{documents_in, documents_of_slot, without_number, with_body_at, RiseTo};
 ghost use Rattle.index.specs.Private.Store.{stored, IsStore, HasPlaceFor, IsReadyFor};
 
@@ -186,8 +185,7 @@ impl Store {
     /// Empties the sets, and has all documents wait for `fill`. The documents stay as they are. It needs no memory.
     fn start_over(&mut self)
         ensures documents { stored self.new ≡ stored self.old }
-        ensures waits { (t n : ℕ) → is_whole self.new.sets.waiting t n ≡ false }
-        ensures none_left { NoneIsLeft self.new.sets.waiting }
+        ensures waits { (number : ℕ) → IsAmongWaiting number self.new.sets.waiting }
         ensures store { (last : ℕ) → IsStore last self.old → IsStore last self.new }
     {
         let alloc = *self.slots.allocator();
@@ -261,7 +259,7 @@ impl Store {
     }
 
     /// Goes on with what waits: as `fill_one`, and puts documents from a number on that wait into the sets of their trigrams, one
-    /// after the other, each whole. Returns how much of `most` is left; if that is not 0, none waits any more. An `Err` means that
+    /// after the other. Returns how much of `most` is left; if that is not 0, none waits any more. An `Err` means that
     /// memory ran out. The documents stay as they are in either case.
     pub(crate) fn fill_some(&mut self, most: usize) -> Result<usize, AllocError>
         requires { (last : ℕ) × IsStore last self.old }
@@ -280,7 +278,7 @@ impl Store {
         let none = Trigrams::new(*self.slots.allocator(), &[])?;
         let mut left = most;
         while left > 0 {
-            let Some(work) = self.fill_next(&none)? else {
+            let Some(work) = self.fill_next(&none, left)? else {
                 return Ok(left);
             };
             left = left.saturating_sub(work);
@@ -288,10 +286,10 @@ impl Store {
         Ok(0)
     }
 
-    /// Puts the first document that waits into the sets of its trigrams, if documents from a number on wait. `none` are no trigrams.
-    /// Returns how much work that was, `None` if none of them waits any more. An `Err` means that memory ran out. The documents stay
-    /// as they are in either case.
-    fn fill_next(&mut self, none: &Trigrams) -> Result<Option<usize>, AllocError>
+    /// Goes on with the first document that waits, if documents from a number on wait: puts it into the sets of its trigrams, until
+    /// the work comes to `most`. `none` are no trigrams. Returns how much work that was, `None` if none of them waits any more. An
+    /// `Err` means that memory ran out. The documents stay as they are in either case.
+    fn fill_next(&mut self, none: &Trigrams, most: usize) -> Result<Option<usize>, AllocError>
         requires store { (last : ℕ) × IsStore last self.old }
         requires none { none.now ≡ [] }
         ensures documents { stored self.new ≡ stored self.old }
@@ -299,7 +297,7 @@ impl Store {
         ensures work { IfOk result (λ done. IfSome done (λ work. 0 < work)) }
     {
         let first = match &self.sets.waiting {
-            Some(Waiting::From(first)) => *first,
+            Some(Waiting::From { first, .. }) => *first,
             _ => return Ok(None),
         };
         let Some(number) = number_from(&self.slots, first) else {
@@ -307,7 +305,7 @@ impl Store {
             return Ok(None);
         };
         let trigrams = trigrams_of(&self.slots, number, none);
-        let work = self.sets.put_next(number, trigrams, none)?;
+        let work = self.sets.put_next(number, trigrams, none, most)?;
         Ok(Some(work))
     }
 
@@ -429,13 +427,12 @@ impl Store {
         }
     }
 
-    /// Replaces the body of the document with this number, which waits with all its trigrams, and goes on to wait. It needs no
-    /// memory.
+    /// Replaces the body of the document with this number, which is one of those from some number on that wait, and goes on to wait
+    /// with all its trigrams. It needs no memory.
     pub(crate) fn replace_later(&mut self, number: u32, held: Held)
         requires store { (last : ℕ) × IsStore last self.old }
         requires there { IsSome (document_at number (stored self.old)) }
-        requires waits { (t : ℕ) → is_whole self.old.sets.waiting t number ≡ false }
-        requires none_left { NoneIsLeft self.old.sets.waiting }
+        requires waits { IsAmongWaiting number self.old.sets.waiting }
         requires bytes { body_bytes (stored self.old) + length held < 2 ^ 64 }
         ensures documents { stored self.new ≡ map (with_body_at number held) (stored self.old) }
         ensures store { (last : ℕ) → IsStore last self.old → IsStore last self.new }

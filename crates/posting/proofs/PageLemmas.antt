@@ -79,6 +79,11 @@ place_of-slots : (directory slots slots' : List ℕ) (t : ℕ) → place_of (pag
 unfolding place_of
 place_of-slots directory slots slots' t = refl
 
+-- without a place in the directory there is none for any trigram
+pub place_of-bare : (directory slots : List ℕ) (t : ℕ) → length directory ≡ 0 → place_of (paged directory slots) t ≡ None
+place_of-bare [] slots t none = place_of-slots [] slots [] t ∙ place_of-empty t
+place_of-bare (page ∷ pages) slots t none = absurd (omega (arith, none))
+
 pub limits-written : (pages : PageTable) (place code t : ℕ) → free_limit (paged pages.directory (set pages.slots place code)) t ≡ free_limit pages t
 limits-written pages place code t = ap limit_at (place_of-slots pages.directory (set pages.slots place code) pages.slots t)
 

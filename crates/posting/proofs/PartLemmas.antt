@@ -1,5 +1,5 @@
 -- The sets of all parts, of which one is changed.
-use Rattle.std.proofs.Common.{◌≡◌, ◌≢◌, ℕ, ◌+◌, ◌-◌, ◌<◌, ◌≤◌, ◌⊎◌, inl, inr, false, zero, suc, List, [], ◌∷◌, length, get_or, set, refl, sym, ap, ◌∙◌, arith}
+use Rattle.std.proofs.Common.{All, ◌≡◌, ◌≢◌, ℕ, ◌+◌, ◌-◌, ◌<◌, ◌≤◌, ◌⊎◌, inl, inr, false, zero, suc, List, [], ◌∷◌, length, get_or, set, refl, sym, ap, ◌∙◌, arith}
 use Rattle.std.proofs.lemmas.Bool.{cases_eq, false≢true}
 use Rattle.std.proofs.lemmas.List.{get_or-set_same, get_or-set_other, get_or_read}
 use Rattle.posting.specs.ListValue.{has}
@@ -114,6 +114,10 @@ bare_more p parts one others = record { each = each }
     each : (k l n : ℕ) → holds (get_or (p ∷ parts) k []) l n ≡ false
     each zero l n = one l n
     each (suc k) l n = others.each k l n
+
+pub bare_all : (parts : List (List NumberSet)) → All (λ p. (l n : ℕ) → holds p l n ≡ false) parts → AreBare parts
+bare_all [] none = bare_none
+bare_all (p ∷ parts) none = bare_more p parts (none 0 [] (omega arith)) (bare_all parts (λ k d inside. none (suc k) d (omega arith)))
 
 pub bare_whole : (parts : List (List NumberSet)) → AreBare parts → (t n : ℕ) → holds (whole_of parts) t n ≡ false
 bare_whole parts bare t n =

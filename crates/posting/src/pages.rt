@@ -1,6 +1,6 @@
 //! A slot for each trigram, on pages that are made as they are needed. The head of list.rt says how they lie in memory.
 
-ghost use Rattle.std.specs.Prelude.{◌≡◌, ℕ, ◌*◌, ◌<◌, ◌≤◌, if◌then◌else◌, ◌==◌, length, slice_index, IfOk, OnOk, OnErr};
+ghost use Rattle.std.specs.Prelude.{◌≡◌, ℕ, ◌*◌, ◌<◌, ◌≤◌, if◌then◌else◌, ◌==◌, length, slice_index, IfOk, OnOk, OnErr, IsTrue, None};
 ghost use Rattle.std.specs.List.{list_all};
 ghost use Rattle.posting.specs.Private.PageTable.{page_size, page_count, SameDirectory};
 ghost use Rattle.posting.specs.Private.Pages.{trigram_count, slot_of_code, FitsSlot, place_of, code_of, slot_of, free_limit, HasPage, SamePages, AddsPage, CopiesPage};
@@ -126,6 +126,13 @@ impl Pages {
             used: 0,
             most: 0,
         }
+    }
+
+    /// Whether there is no page, nor a place for one.
+    pub(crate) fn is_bare(&self) -> bool
+        ensures { IsTrue result → (trigram : ℕ) → place_of self.now trigram ≡ None }
+    {
+        self.directory.is_empty()
     }
 
     /// The slot of a trigram. It is free if there is no page for it.

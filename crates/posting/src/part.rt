@@ -1,6 +1,6 @@
 //! The sets of one part of the trigrams.
 
-ghost use Rattle.std.specs.Prelude.{◌≡◌, ◌≢◌, ℕ, ◌<◌, ◌≤◌, ◌||◌, ◌&&◌, ◌==◌, false, [], IfSome, IfNone, OnOk, OnErr};
+ghost use Rattle.std.specs.Prelude.{◌≡◌, ◌≢◌, ℕ, ◌<◌, ◌≤◌, ◌||◌, ◌&&◌, ◌==◌, false, [], IfSome, IfNone, OnOk, OnErr, IsTrue};
 ghost use Rattle.posting.specs.ListValue.{has, without};
 ghost use Rattle.posting.specs.Postings.{slot_limit, set_of, holds, SameSets, KeepsRoom};
 ghost use Rattle.posting.specs.Private.Pages.{StandsFor, trigram_count};
@@ -80,6 +80,13 @@ impl Part {
             pages: Pages::new(alloc),
             lists: Vec::new(alloc),
         }
+    }
+
+    /// Whether there is no set, nor room for one. Otherwise all sets can still be empty.
+    pub(crate) fn is_bare(&self) -> bool
+        ensures { IsTrue result → (trigram n : ℕ) → holds self.now trigram n ≡ false }
+    {
+        self.pages.is_bare()
     }
 
     /// The allocator of its lists.

@@ -1,9 +1,10 @@
 //! The sets of all trigrams.
 
-ghost use Rattle.std.specs.Prelude.{◌≡◌, ◌≢◌, ℕ, ◌<◌, ◌≤◌, ◌||◌, ◌&&◌, ◌==◌, true, false, [], ◌∷◌, filter, map, IfOk, IfSome, IfNone, OnOk, IsTrue};
+ghost use Rattle.std.specs.Prelude.{◌≡◌, ◌≢◌, ℕ, ◌<◌, ◌≤◌, ◌||◌, ◌&&◌, ◌==◌, true, false, [], ◌∷◌, filter, map, All, IfOk, IfErr, IfSome, IfNone, OnOk, IsTrue};
 ghost use Rattle.std.specs.List.{list_all};
 ghost use Rattle.query.specs.Query.{formula_of, formulas_of, texts, all_of, one_of};
 ghost use Rattle.query.specs.Pairs.{texts_in};
+ghost use Rattle.watch.specs.CalledOff.{IsCalledOffOnlyIf};
 ghost use Rattle.posting.specs.ListValue.{has, without};
 ghost use Rattle.posting.specs.Postings.{slot_limit, set_of, holds, IsPrepared, IsAbsent, AllDiffer};
 ghost use Rattle.posting.specs.Postings.{SameSets, KeepsRoom, is_listed, AddsNumber, WithdrawsNumber, GivesBack, MovesNumber, IsMovedUntil, selected, trigrams_with};
@@ -19,6 +20,7 @@ use query::{Pairs, Query, Trigram, trigrams_in_turn};
 use std::alloc::{AllocError, Global};
 use std::marker::Model;
 use std::thread::Threads;
+use watch::{Unanswered, Watch, ask};
 
 /// A share of a set is given in so many parts.
 pub const WHOLE: usize = 256;
@@ -70,6 +72,13 @@ impl Postings {
                 Part::new(alloc),
             ],
         }
+    }
+
+    /// Whether there is no set, nor room for one, as after `new`. Otherwise all sets can still be empty.
+    pub fn is_bare(&self) -> bool
+        ensures { IsTrue result → (trigram n : ℕ) → holds self.now trigram n ≡ false }
+    {
+        are_bare(&self.parts)
     }
 
     /// Makes room for a number in the set of each of these trigrams, so that `add` needs no more memory. The sets keep
@@ -227,15 +236,22 @@ impl Postings {
     /// Calls nest as deep as the query is high. By measurement each level takes at most 720 bytes of stack, so 2 MiB of
     /// stack bear 2,900 levels.
     ///
-    /// An `Err` means that memory ran out.
-    pub fn select(&self, alloc: Global, query: &Query, live: &List) -> Result<List, AllocError>
-        ensures { IfOk result (λ chosen. chosen.members
+    /// An `Err` means that memory ran out, or that `watch` called it off.
+    pub fn select<W: Watch>(
+        &self,
+        alloc: Global,
+        query: &Query,
+        live: &List,
+        watch: &mut W,
+    ) -> Result<List, Unanswered>
+        ensures chosen { IfOk result (λ chosen. chosen.members
             ≡ selected self.now (formula_of query.now) live.now.members) }
+        ensures called_off { IfErr result (IsCalledOffOnlyIf (W.has_said_no watch.new)) }
     {
         if live.is_empty() {
             return Ok(List::new(alloc));
         }
-        self.narrow(alloc, query, live)
+        self.narrow(alloc, query, live, watch)
     }
 
     fn make_room(&mut self, trigram: Trigram, number: u32) -> Result<(), AllocError>
@@ -285,42 +301,58 @@ impl Postings {
     }
 
     /// The numbers of `within` whose trigrams have this one.
-    fn narrow_by(&self, alloc: Global, trigram: Trigram, within: &List) -> Result<List, AllocError>
-        ensures { IfOk result (λ chosen. chosen.members ≡ filter (has (set_of self.now trigram).members) within.now.members) }
+    fn narrow_by<W: Watch>(
+        &self,
+        alloc: Global,
+        trigram: Trigram,
+        within: &List,
+        watch: &mut W,
+    ) -> Result<List, Unanswered>
+        ensures chosen { IfOk result (λ chosen. chosen.members ≡ filter (has (set_of self.now trigram).members) within.now.members) }
+        ensures called_off { IfErr result (IsCalledOffOnlyIf (W.has_said_no watch.new)) }
     {
         match self.set(trigram) {
             Set::Empty => Ok(List::new(alloc)),
-            Set::One(number) => only(alloc, number, within),
-            Set::List(list) => within.intersect(list),
+            Set::One(number) => only(alloc, number, within, watch),
+            Set::List(list) => within.intersect(list, watch),
         }
     }
 
     /// The numbers of `within` whose trigrams have this one, and perhaps numbers outside `within`.
-    fn collect_by(&self, alloc: Global, trigram: Trigram, within: &List) -> Result<List, AllocError>
-        ensures { IfOk result (λ found. (n : ℕ) → IsTrue (has within.now.members n)
+    fn collect_by<W: Watch>(
+        &self,
+        alloc: Global,
+        trigram: Trigram,
+        within: &List,
+        watch: &mut W,
+    ) -> Result<List, Unanswered>
+        ensures found { IfOk result (λ found. (n : ℕ) → IsTrue (has within.now.members n)
             → has found.members n ≡ has (set_of self.now trigram).members n) }
+        ensures called_off { IfErr result (IsCalledOffOnlyIf (W.has_said_no watch.new)) }
     {
         match self.set(trigram) {
             Set::Empty => Ok(List::new(alloc)),
             Set::One(number) => Ok(List::one(alloc, number)),
-            Set::List(list) => list.shortened(within),
+            Set::List(list) => list.shortened(within, watch),
         }
     }
 
     /// The numbers of `within` whose trigrams have all of these, and perhaps numbers outside `within`. The trigram that
     /// the fewest numbers have comes first.
-    fn collect_all_by(
+    fn collect_all_by<W: Watch>(
         &self,
         alloc: Global,
         trigrams: &[Trigram],
         within: &List,
-    ) -> Result<List, AllocError>
-        ensures { IfOk result (λ found. (n : ℕ) → IsTrue (has within.now.members n)
+        watch: &mut W,
+    ) -> Result<List, Unanswered>
+        ensures found { IfOk result (λ found. (n : ℕ) → IsTrue (has within.now.members n)
             → has found.members n ≡ list_all (trigrams_with self.now n) trigrams.now) }
+        ensures called_off { IfErr result (IsCalledOffOnlyIf (W.has_said_no watch.new)) }
     {
         let (first, _) = self.rarest(trigrams);
         let mut found = match trigrams.get(first) {
-            Some(trigram) => self.collect_by(alloc, *trigram, within)?,
+            Some(trigram) => self.collect_by(alloc, *trigram, within, watch)?,
             None => within.copy()?,
         };
         for (i, trigram) in trigrams.iter().enumerate() {
@@ -328,7 +360,7 @@ impl Postings {
                 return Ok(found);
             }
             if i != first {
-                found = self.narrow_by(alloc, *trigram, &found)?;
+                found = self.narrow_by(alloc, *trigram, &found, watch)?;
             }
         }
         Ok(found)
@@ -358,61 +390,85 @@ impl Postings {
     }
 
     /// The numbers of `within` whose trigrams have all those of one of the texts, and perhaps numbers outside `within`.
-    fn collect_texts(&self, alloc: Global, pairs: &Pairs, within: &List) -> Result<List, AllocError>
-        ensures { IfOk result (λ found. Finds self.now (texts (texts_in pairs.now)) within.now.members found.members) }
+    fn collect_texts<W: Watch>(
+        &self,
+        alloc: Global,
+        pairs: &Pairs,
+        within: &List,
+        watch: &mut W,
+    ) -> Result<List, Unanswered>
+        ensures found { IfOk result (λ found. Finds self.now (texts (texts_in pairs.now)) within.now.members found.members) }
+        ensures called_off { IfErr result (IsCalledOffOnlyIf (W.has_said_no watch.new)) }
     {
         let texts = pairs.texts(alloc)?;
         let mut lists = Vec::new(alloc);
         for text in &texts {
+            ask(watch)?;
             let trigrams = trigrams_in_turn(alloc, text.as_slice())?;
-            lists.push(self.collect_all_by(alloc, trigrams.as_slice(), within)?)?;
+            lists.push(self.collect_all_by(alloc, trigrams.as_slice(), within, watch)?)?;
         }
-        union_of(alloc, &lists)
+        union_of(alloc, &lists, watch)
     }
 
     /// The numbers of `within` that meet the query.
     #[cycle(narrow)]
-    fn narrow(&self, alloc: Global, query: &Query, within: &List) -> Result<List, AllocError>
-        ensures { IfOk result (λ chosen. chosen.members
+    fn narrow<W: Watch>(
+        &self,
+        alloc: Global,
+        query: &Query,
+        within: &List,
+        watch: &mut W,
+    ) -> Result<List, Unanswered>
+        ensures chosen { IfOk result (λ chosen. chosen.members
             ≡ selected self.now (formula_of query.now) within.now.members) }
+        ensures called_off { IfErr result (IsCalledOffOnlyIf (W.has_said_no watch.new)) }
     {
         match query {
-            Query::Any => within.copy(),
-            Query::Has(trigram) => self.narrow_by(alloc, *trigram, within),
-            _ => within.intersect(&self.collect(alloc, query, within)?),
+            Query::Any => Ok(within.copy()?),
+            Query::Has(trigram) => self.narrow_by(alloc, *trigram, within, watch),
+            _ => within.intersect(&self.collect(alloc, query, within, watch)?, watch),
         }
     }
 
     /// The numbers of `within` that meet the query, and perhaps numbers outside `within`. So the result for many
     /// members is intersected with `within` only once.
     #[cycle(narrow)]
-    fn collect(&self, alloc: Global, query: &Query, within: &List) -> Result<List, AllocError>
-        ensures { IfOk result (λ found. Finds self.now (formula_of query.now) within.now.members found.members) }
+    fn collect<W: Watch>(
+        &self,
+        alloc: Global,
+        query: &Query,
+        within: &List,
+        watch: &mut W,
+    ) -> Result<List, Unanswered>
+        ensures found { IfOk result (λ found. Finds self.now (formula_of query.now) within.now.members found.members) }
+        ensures called_off { IfErr result (IsCalledOffOnlyIf (W.has_said_no watch.new)) }
     {
         match query {
-            Query::Any => within.copy(),
+            Query::Any => Ok(within.copy()?),
             Query::None => Ok(List::new(alloc)),
-            Query::Has(trigram) => self.collect_by(alloc, *trigram, within),
-            Query::Pairs(pairs) => self.collect_texts(alloc, pairs, within),
-            Query::And(members) => self.collect_all(alloc, members, within),
-            Query::Or(members) => self.collect_any(alloc, members, within),
+            Query::Has(trigram) => self.collect_by(alloc, *trigram, within, watch),
+            Query::Pairs(pairs) => self.collect_texts(alloc, pairs, within, watch),
+            Query::And(members) => self.collect_all(alloc, members, within, watch),
+            Query::Or(members) => self.collect_any(alloc, members, within, watch),
         }
     }
 
     /// The member that the fewest numbers can meet comes first, so the longer lists are examined in few places.
     #[cycle(narrow)]
-    fn collect_all(
+    fn collect_all<W: Watch>(
         &self,
         alloc: Global,
         members: &[Query],
         within: &List,
-    ) -> Result<List, AllocError>
-        ensures { IfOk result (λ found. Finds self.now (all_of (formulas_of (map formula_of members.now)))
+        watch: &mut W,
+    ) -> Result<List, Unanswered>
+        ensures found { IfOk result (λ found. Finds self.now (all_of (formulas_of (map formula_of members.now)))
             within.now.members found.members) }
+        ensures called_off { IfErr result (IsCalledOffOnlyIf (W.has_said_no watch.new)) }
     {
         let (first, _) = self.fewest(alloc, members)?;
         let mut found = match members.get(first) {
-            Some(member) => self.collect(alloc, member, within)?,
+            Some(member) => self.collect(alloc, member, within, watch)?,
             None => within.copy()?,
         };
         for (i, member) in members.iter().enumerate() {
@@ -420,27 +476,29 @@ impl Postings {
                 return Ok(found);
             }
             if i != first {
-                found = self.narrow(alloc, member, &found)?;
+                found = self.narrow(alloc, member, &found, watch)?;
             }
         }
         Ok(found)
     }
 
     #[cycle(narrow)]
-    fn collect_any(
+    fn collect_any<W: Watch>(
         &self,
         alloc: Global,
         members: &[Query],
         within: &List,
-    ) -> Result<List, AllocError>
-        ensures { IfOk result (λ found. Finds self.now (one_of (formulas_of (map formula_of members.now)))
+        watch: &mut W,
+    ) -> Result<List, Unanswered>
+        ensures found { IfOk result (λ found. Finds self.now (one_of (formulas_of (map formula_of members.now)))
             within.now.members found.members) }
+        ensures called_off { IfErr result (IsCalledOffOnlyIf (W.has_said_no watch.new)) }
     {
         let mut lists = Vec::new(alloc);
         for member in members {
-            lists.push(self.collect(alloc, member, within)?)?;
+            lists.push(self.collect(alloc, member, within, watch)?)?;
         }
-        union_of(alloc, &lists)
+        union_of(alloc, &lists, watch)
     }
 
     /// At most this many numbers meet the query.
@@ -496,8 +554,25 @@ impl Postings {
 }
 
 /// The set with this number if it is in another set, else the empty one.
-fn only(alloc: Global, number: u32, within: &List) -> Result<List, AllocError>
-    ensures { IfOk result (λ only. only.members ≡ filter (has (number ∷ [])) within.now.members) }
+fn only<W: Watch>(
+    alloc: Global,
+    number: u32,
+    within: &List,
+    watch: &mut W,
+) -> Result<List, Unanswered>
+    ensures only { IfOk result (λ only. only.members ≡ filter (has (number ∷ [])) within.now.members) }
+    ensures called_off { IfErr result (IsCalledOffOnlyIf (W.has_said_no watch.new)) }
 {
-    within.intersect(&List::one(alloc, number))
+    within.intersect(&List::one(alloc, number), watch)
+}
+
+/// Whether there is no set in any of these parts, nor room for one.
+#[cycle(are_bare)]
+fn are_bare(parts: &[Part]) -> bool
+    ensures { IsTrue result → All (λ p. (trigram n : ℕ) → holds p trigram n ≡ false) parts.now }
+{
+    match parts {
+        [] => true,
+        [first, others @ ..] => first.is_bare() && are_bare(others),
+    }
 }

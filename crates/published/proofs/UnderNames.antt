@@ -1,5 +1,5 @@
 -- Names that begin with a text, among the names of a set.
-use Rattle.std.proofs.Common.{◌≡◌, ℕ, ◌+◌, ◌<◌, Bool, true, false, not, ◌&&◌, ◌||◌, cond, List, [], ◌∷◌, ◌++◌, length, take, get_or, refl, sym, ap, ◌∙◌, append_assoc}
+use Rattle.std.proofs.Common.{◌≡◌, ℕ, Bool, true, false, not, ◌&&◌, ◌||◌, cond, List, [], ◌∷◌, ◌++◌, refl, sym, ap, ◌∙◌, append_assoc}
 use Rattle.std.specs.Prelude.{bytes_eq, filter}
 use Rattle.std.specs.List.{list_any, take_while, AllByRecursion}
 use Rattle.std.specs.List.Sorted.{IsStrictlySortedBy}
@@ -9,12 +9,11 @@ use Rattle.std.specs.BTreeMap.{is_at}
 use Rattle.std.specs.BTreeMap.Range.{range_contains}
 use Rattle.std.specs.declared.ops.Bound.TheVariants.{Included, Unbounded}
 use Rattle.std.specs.declared.cmp.Ordering.TheVariants.{Less}
-use Rattle.std.proofs.Math.Bool.{and-false}
 use Rattle.std.proofs.lemmas.Bool.{false≢true}
 use Rattle.std.proofs.lemmas.List.{append-nil}
-use Rattle.std.proofs.lemmas.List.Folds.{list_any_more}
 use Rattle.std.proofs.lemmas.List.Sums.{take_while-cons}
 use Rattle.std.proofs.lemmas.Map.Keys.{sorted_head, sorted_tail}
+use Rattle.std.proofs.lemmas.Map.Views.{any-filter_same}
 use Rattle.prefixes.specs.Under.{begins_with}
 use Rattle.index.proofs.DocumentLemmas.{same_name, bytes_eq-sym}
 use Rattle.index.proofs.UnderLemmas.{none_behind}
@@ -123,22 +122,9 @@ module _ (text q : List ℕ) where
       ∙ ap (λ t. is_at (slice_cmp nat_cmp q) name || t) (any_same names)
 
   any_begun : (names : List (List ℕ)) → has (filter (begins_with text) names) ≡ (begins_with text q && has names)
-  any_begun [] = sym (and-false (begins_with text q))
-  any_begun (name ∷ names) = go (begins_with text name) refl (is_at (slice_cmp nat_cmp q) name) refl (any_begun names)
-    where
-      named : is_at (slice_cmp nat_cmp q) name ≡ true → q ≡ name
-      named at = same_name q name (texts_ties q name ∙ at)
-
-      go : (t : Bool) → begins_with text name ≡ t → (u : Bool) → is_at (slice_cmp nat_cmp q) name ≡ u
-          → has (filter (begins_with text) names) ≡ (begins_with text q && has names)
-          → has (cond t (name ∷ filter (begins_with text) names) (filter (begins_with text) names)) ≡ (begins_with text q && (u || has names))
-      go true here true at deeper =
-          ap (λ u. u || has (filter (begins_with text) names)) at ∙ ap (λ t. t && true) (sym (ap (begins_with text) (named at) ∙ here))
-      go true here false at deeper = ap (λ u. u || has (filter (begins_with text) names)) at ∙ deeper
-      go false other true at deeper =
-          let none : begins_with text q ≡ false = ap (begins_with text) (named at) ∙ other in
-          deeper ∙ (ap (λ t. t && has names) none ∙ ap (λ t. t && true) (sym none))
-      go false other false at deeper = deeper
+  any_begun names =
+      any-filter_same (is_at (slice_cmp nat_cmp q)) (begins_with text) (begins_with text q)
+      (λ name at. ap (begins_with text) (sym (same_name q name (texts_ties q name ∙ at)))) names
 
   -- without those that begin with the text, a name is there if it was and does not begin with it
   pub left_out : (old found : List (List ℕ)) (now : Bool) → found ≡ filter (begins_with text) old

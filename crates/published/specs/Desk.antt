@@ -1,8 +1,8 @@
 -- What a desk has accepted and published.
-use Rattle.std.specs.Prelude.{◌≡◌, ℕ, ◌<◌, Bool, true, false, List, [], ◌∷◌, ◌++◌, length, is_some}
+use Rattle.std.specs.Prelude.{◌≡◌, ℕ, ◌<◌, Bool, true, false, List, [], ◌∷◌, ◌++◌, length}
 use Rattle.logbook.specs.Pages.{Book}
 use Rattle.index.specs.declared.command.Command.{Command}
-use Rattle.index.specs.Documents.{documents_of, number_of, has_under}
+use Rattle.index.specs.Documents.{documents_of, is_taken, has_under}
 use Rattle.published.specs.declared.error.PutErrorKind.{PutErrorKind}
 use Rattle.published.specs.declared.error.PutErrorKind.TheVariants as put_error
 use Rattle.published.specs.declared.error.RemoveError.{RemoveError}
@@ -36,7 +36,7 @@ HasRoom desk = length desk.accepted < desk.limit
 
 -- whether there is a document of this name after these commands
 abbrev pub has_document : List Command → List ℕ → Bool
-has_document commands name = is_some (number_of name (documents_of commands))
+has_document commands name = is_taken name (documents_of commands)
 
 -- whether there is a document after these commands whose name begins with the text
 abbrev pub has_document_under : List Command → List ℕ → Bool

@@ -90,6 +90,14 @@ impl Operation {
         }
     }
 
+    /// The bytes of the body that it brings.
+    fn bytes_brought(&self) -> usize {
+        match self {
+            Operation::Change(Update::Put(_, incoming)) => incoming.len(),
+            _ => 0,
+        }
+    }
+
     /// Whether it can be carried out: a body that it brings is analysed.
     pub(crate) fn is_ready(&self) -> bool {
         match self {
@@ -115,24 +123,26 @@ impl Shelf {
         Ok(())
     }
 
-    /// Carries out the operation in pieces. Returns about how much work that was, but for what is left to `fill_some`. An `Err` is
-    /// as that of `carry_out`.
+    /// Carries out the operation in pieces. Returns about how much work that was: all bytes of the body that it takes away, and, unless
+    /// they are left to `fill_some`, those of the one that it brings. An `Err` is as that of `carry_out`.
     pub(crate) fn begin(&mut self, operation: &Operation) -> Result<usize, AllocError>
         ensures ok { OnOk result (self.new ≡ operated self.old operation.now) }
         ensures err { OnErr result (self.new ≡ self.old) }
         ensures work { IfOk result (λ work. 0 < work) }
     {
-        let bytes = self.bytes_in(operation);
+        let taken = self.bytes_taken(operation);
         self.carry_out(operation, Way::InPieces)?;
-        if self.is_filling() {
-            return Ok(LEAST_WORK);
-        }
-        Ok(bytes.saturating_add(LEAST_WORK))
+        let brought = if self.is_filling() {
+            0
+        } else {
+            operation.bytes_brought()
+        };
+        Ok(taken.saturating_add(brought).saturating_add(LEAST_WORK))
     }
 
     /// Carries out a part of the operation, if it is a remove of all names under a prefix and there is such a name: takes out
-    /// one document. Returns about how much work that was, but for what is left to `fill_some`. The operation still has to be
-    /// carried out, and then does what it would have done before.
+    /// one document. Returns about how much work that was. The operation still has to be carried out, and then does what it would
+    /// have done before.
     pub(crate) fn carry_out_part(&mut self, operation: &Operation) -> Option<usize>
         ensures part { operated self.new operation.now ≡ operated self.old operation.now }
         ensures work { IfSome result (λ work. 0 < work) }
@@ -144,9 +154,6 @@ impl Shelf {
         let before = self.index.held_bytes();
         if !self.index.take_one_under(prefix) {
             return None;
-        }
-        if self.is_filling() {
-            return Some(LEAST_WORK);
         }
         let bytes = before.saturating_sub(self.index.held_bytes());
         Some(LEAST_WORK.saturating_add(bytes as usize))
@@ -195,24 +202,18 @@ impl Shelf {
         self.index.is_filling()
     }
 
-    /// The bytes of the body that the operation brings, and of the one that it takes away.
-    fn bytes_in(&self, operation: &Operation) -> usize {
+    /// The bytes of the body that the operation takes away.
+    fn bytes_taken(&self, operation: &Operation) -> usize {
         match operation {
-            Operation::Change(Update::Put(name, incoming)) => {
-                incoming.len().saturating_add(self.bytes_of(name))
-            }
-            Operation::Change(Update::Remove(name)) => self.bytes_of(name),
+            Operation::Change(Update::Put(name, _) | Update::Remove(name)) => self.bytes_of(name),
             _ => 0,
         }
     }
 
     /// The bytes of the body of the document with this name, if there is one.
     fn bytes_of(&self, name: &Name) -> usize {
-        let Some(number) = self.index.number(name) else {
-            return 0;
-        };
-        match self.index.document(number) {
-            Some((_, body)) => body.as_bytes().len(),
+        match self.index.body(name) {
+            Some(body) => body.as_bytes().len(),
             None => 0,
         }
     }

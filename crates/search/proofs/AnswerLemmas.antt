@@ -1,5 +1,6 @@
 -- From what is gathered of the documents that were taken out of an index to what is shown of the answer in its state.
-use Rattle.std.proofs.Common.{◌≡◌, ◌≢◌, ℕ, suc, ◌⊎◌, inl, inr, Bool, true, false, None, List, [], ◌∷◌, map, length, drop, Contains, refl, sym, ◌∙◌, ap, subst, arith}
+use Rattle.std.proofs.Common.{◌≡◌, ◌≢◌, ℕ, suc, ◌⊎◌, inl, inr, Bool, true, false, None, List, [], ◌∷◌, length, drop, Contains, refl, sym, ◌∙◌, ap, subst, arith}
+use Rattle.std.specs.FinMap.{len}
 use Rattle.std.specs.List.{AllByRecursion, AllPairs}
 use Rattle.std.specs.Str.{bytes_eq}
 use Rattle.std.specs.Ordering.{nat_cmp, is_eq}
@@ -7,10 +8,11 @@ use Rattle.std.specs.Cmp.Lexicographic.{slice_cmp}
 use Rattle.std.specs.List.Sorted.{IsStrictlySortedBy}
 use Rattle.std.specs.declared.cmp.Ordering.TheVariants.{Less}
 use Rattle.std.proofs.lemmas.Map.Text.{is_eq-slice_cmp}
-use Rattle.index.specs.Documents.{Document, RisesByName}
+use Rattle.index.specs.Documents.{Document, RisesByName, listed}
 use Rattle.index.specs.Shared.{document_of, documents_shared}
 use Rattle.index.specs.State.{State}
 use Rattle.index.specs.declared.document.SharedDocument.{SharedDocument}
+use Rattle.index.proofs.ListedLemmas.{names_differ}
 use Rattle.index.proofs.DocumentLemmas.{Contains-cons, Contains-head, Contains-tail, bytes_eq-refl, bytes_eq-sym, filter-Contains, same_name}
 use Rattle.query.specs.Trigrams.{trigrams_of_body}
 use Rattle.request.specs.declared.options.View.{View}
@@ -41,7 +43,7 @@ use Rattle.std.specs.Prelude.{flat_map}
 -- ---- names
 
 apart-above : (name : List ℕ) (documents : List SharedDocument)
-    → AllByRecursion (λ n. slice_cmp nat_cmp name n ≡ Less) (map (λ d. d.name) (documents_shared documents))
+    → AllByRecursion (λ d. slice_cmp nat_cmp name d.name ≡ Less) (documents_shared documents)
     → AllByRecursion (λ e. bytes_eq e.name name ≡ false) documents
 apart-above name [] above = tt
 apart-above name (d ∷ documents) above =
@@ -101,7 +103,7 @@ final-rows request view.Header all hits rows are = are
 
 module _ (state : State) (prepared : Prepared) (taken kept : List SharedDocument) (wanted : Wanted) (joined : Joined)
     (order : AreFronted state (pattern_of prepared) (documents_shared taken))
-    (pairs : AllPairs (λ d e. d.name ≢ e.name) state.documents) (named : Selects (IsAdmitted (pattern_of prepared)) taken kept)
+    (named : Selects (IsAdmitted (pattern_of prepared)) taken kept)
     (is_prepared : wanted.prepared.now ≡ prepared) (is_limit : wanted.limit ≡ prepared.limit) (is_view : wanted.view ≡ prepared.view)
     (joins : HaveOwnNames kept → Joins wanted wanted.limit kept joined) where
   are : AreWanted state (pattern_of prepared) (documents_shared kept)
@@ -113,18 +115,18 @@ module _ (state : State) (prepared : Prepared) (taken kept : List SharedDocument
   is : Joins wanted wanted.limit kept joined
   is = joins own
 
-  bodies : HaveBodies state.documents kept
+  bodies : HaveBodies (listed state.documents) kept
   bodies =
-      each-body state.documents kept (λ d there.
-      body_there state.documents pairs d
-      (filter-Contains (λ x. can_have (pattern_of prepared).line (trigrams_of_body x.body)) state.documents d ((are.exact d).0 there).candidate).0)
+      each-body (listed state.documents) kept (λ d there.
+      body_there (listed state.documents) (names_differ state.documents) d
+      (filter-Contains (λ x. can_have (pattern_of prepared).line (trigrams_of_body x.body)) (listed state.documents) d ((are.exact d).0 there).candidate).0)
 
   same_request : with_limit wanted.limit (request_of wanted.prepared.now) ≡ request_of prepared
   same_request =
       ap (λ limit. with_limit limit (request_of wanted.prepared.now)) is_limit
       ∙ ap (λ (p : Prepared). with_limit prepared.limit (request_of p)) is_prepared
 
-  pub shown-is : (version documents candidates : ℕ) → version ≡ state.version → documents ≡ length state.documents
+  pub shown-is : (version documents candidates : ℕ) → version ≡ state.version → documents ≡ len state.documents
       → candidates ≡ length (candidates_of state (pattern_of prepared).line)
       → IsShownOf state (request_of prepared) (shown_with prepared.view version documents candidates joined)
   shown-is version documents candidates is_version are_documents are_candidates = record {
@@ -140,9 +142,9 @@ module _ (state : State) (prepared : Prepared) (taken kept : List SharedDocument
         };
     rows = trimmed prepared.view is.rows;
     are_rows =
-        final-rows (request_of prepared) prepared.view state.documents is.hits is.rows
-        (subst (λ v. AreGathered (request_of prepared) v state.documents is.hits is.rows) is_view
-        (subst (λ r. AreGathered r wanted.view state.documents is.hits is.rows) same_request (is.is_gathered.rows state.documents bodies)));
+        final-rows (request_of prepared) prepared.view (listed state.documents) is.hits is.rows
+        (subst (λ v. AreGathered (request_of prepared) v (listed state.documents) is.hits is.rows) is_view
+        (subst (λ r. AreGathered r wanted.view (listed state.documents) is.hits is.rows) same_request (is.is_gathered.rows (listed state.documents) bodies)));
     view = refl;
     version = refl;
     count =

@@ -1,13 +1,14 @@
 -- The candidates of a pattern, and those of them that are wanted.
-use Rattle.std.proofs.Common.{◌≡◌, ℕ, ◌≤◌, ◌==◌, ◌&&◌, ◌||◌, not, Bool, true, false, cond, List, [], ◌∷◌, map, length, refl, sym, ◌∙◌, ap, subst, arith}
+use Rattle.std.proofs.Common.{◌≡◌, ℕ, ◌==◌, ◌&&◌, ◌||◌, not, Bool, true, false, cond, List, [], ◌∷◌, length, Contains, refl, sym, ◌∙◌, ap, subst}
 use Rattle.std.specs.Prelude.{bytes_eq, filter}
-use Rattle.std.proofs.lemmas.List.{length-map}
+use Rattle.std.specs.Ordering.{nat_cmp}
+use Rattle.std.specs.Cmp.Lexicographic.{slice_cmp}
 use Rattle.std.proofs.lemmas.List.Elements.{filter_agree}
+use Rattle.std.proofs.lemmas.List.Kept.{IsStrictlySortedBy-filter}
 use Rattle.query.specs.Trigrams.{TrigramSet, trigrams_of_body}
 use Rattle.query.specs.Query.{Formula, is_met}
-use Rattle.posting.specs.ListValue.{has}
 use Rattle.index.specs.declared.document.SharedDocument.{SharedDocument}
-use Rattle.index.specs.Documents.{Document, meets, IsInNameOrder, is_chosen, is_under_any}
+use Rattle.index.specs.Documents.{Document, RisesByName, listed, meets, is_under_any}
 use Rattle.index.specs.Shared.{document_of, documents_shared}
 use Rattle.index.specs.State.{State}
 use Rattle.search.specs.Front.{AreFronted, AreFronts}
@@ -19,19 +20,18 @@ use Rattle.prepare.specs.Pattern.{Admits, Test, Pattern}
 use Rattle.prepare.specs.Queries.{can_have}
 use Rattle.search.specs.Scan.{candidates_of}
 use Rattle.search.specs.Selects.{Selects, IsAdmitted}
+use Rattle.index.proofs.ListedLemmas.{listed-rises}
 use Rattle.index.proofs.DocumentLemmas.{bytes_eq-refl, filter-Contains, Contains-filter}
-use Rattle.index.proofs.StoredLemmas.{Numbered}
-use Rattle.index.proofs.OrderLemmas.{chosen_are}
-use Rattle.search.proofs.SelectsLemmas.{Selects-map, rises-Selects, Contains-kept, kept-Contains}
+use Rattle.search.proofs.SelectsLemmas.{Selects-map, sorted-Selects, Contains-kept, kept-Contains}
 use Rattle.search.proofs.ScanLemmas.{AreWanted}
 
 -- the formula is met exactly where the condition is
 abbrev IsMetAs : Test → Formula → Type 0
 IsMetAs test formula = (set : TrigramSet) → is_met formula set ≡ can_have test set
 
-candidates_are : (s : State) (test : Test) (formula : Formula) → IsMetAs test formula → filter (meets formula) s.documents ≡ candidates_of s test
+candidates_are : (s : State) (test : Test) (formula : Formula) → IsMetAs test formula → filter (meets formula) (listed s.documents) ≡ candidates_of s test
 candidates_are s test formula same =
-    filter_agree (meets formula) (λ d. can_have test (trigrams_of_body d.body)) (λ d. same (trigrams_of_body d.body)) s.documents
+    filter_agree (meets formula) (λ d. can_have test (trigrams_of_body d.body)) (λ d. same (trigrams_of_body d.body)) (listed s.documents)
 
 -- one test after the other
 filter_both : (p q : Document → Bool) (ds : List Document) → filter q (filter p ds) ≡ filter (λ d. p d && q d) ds
@@ -43,57 +43,43 @@ filter_both p q (d ∷ ds) = go (p d) (filter_both p q ds)
     go true rest = ap (λ kept. cond (q d) (d ∷ kept) kept) rest
     go false rest = rest
 
--- the documents under some texts that have the numbers of the candidates are the candidates under it
-pub candidates_in_order : (s : State) (pattern : Pattern) (formula : Formula) → Numbered s.documents → IsMetAs pattern.line formula
-    → (members : List ℕ) → members ≡ map (λ d. d.number) (filter (meets formula) s.documents) → (fronts : List (List ℕ)) (ordered : List Document)
-    → IsInNameOrder (filter (is_chosen members fronts) s.documents) ordered
-    → IsInNameOrder (filter (is_under_any fronts) (candidates_of s pattern.line)) ordered
-candidates_in_order s pattern formula rise same members are fronts ordered order =
-    subst (λ ds. IsInNameOrder ds ordered)
-    (sym (filter_both (λ d. has members d.number) (is_under_any fronts) s.documents)
-    ∙ ap (filter (is_under_any fronts))
-    (ap (λ ns. filter (λ d. has ns d.number) s.documents) are
-    ∙ (chosen_are s.documents rise (meets formula) ∙ candidates_are s pattern.line formula same))) order
+-- the documents that meet the formula, under some texts, are the candidates under them
+pub candidates_under : (s : State) (pattern : Pattern) (formula : Formula) → IsMetAs pattern.line formula → (fronts : List (List ℕ))
+    → filter (λ d. meets formula d && is_under_any fronts d) (listed s.documents) ≡ filter (is_under_any fronts) (candidates_of s pattern.line)
+candidates_under s pattern formula same fronts =
+    sym (filter_both (meets formula) (is_under_any fronts) (listed s.documents)) ∙ ap (filter (is_under_any fronts)) (candidates_are s pattern.line formula same)
+
+fronted-rises : (s : State) (pattern : Pattern) (ds : List Document) → AreFronted s pattern ds → RisesByName ds
+fronted-rises s pattern ds fronted =
+    subst RisesByName (sym fronted.are)
+    (IsStrictlySortedBy-filter (λ (d e : Document). slice_cmp nat_cmp d.name e.name) (is_under_any fronted.fronts) (candidates_of s pattern.line)
+    (IsStrictlySortedBy-filter (λ (d e : Document). slice_cmp nat_cmp d.name e.name) (λ d. can_have pattern.line (trigrams_of_body d.body)) (listed s.documents)
+    (listed-rises s.documents)))
 
 -- The wanted documents are the candidates whose names match, in the order of their names.
 pub wanted_are : (s : State) (pattern : Pattern) (taken kept : List SharedDocument)
     → AreFronted s pattern (documents_shared taken) → Selects (IsAdmitted pattern) taken kept
     → AreWanted s pattern (documents_shared kept)
 wanted_are s pattern taken kept fronted named =
-    let order = fronted.in_order in
     let candidates = candidates_of s pattern.line in
     let selected : Selects (λ d. Admits pattern d.name) (documents_shared taken) (documents_shared kept) =
     Selects-map document_of (λ d. Admits pattern d.name) named in
     record {
-      rises = rises-Selects selected order.rises;
+      rises = sorted-Selects (λ d e. slice_cmp nat_cmp d.name e.name) selected (fronted-rises s pattern (documents_shared taken) fronted);
       exact = λ d. (
         λ h. (
             let at = Contains-kept d selected h in
-            record { candidate = (filter-Contains (is_under_any fronted.fronts) candidates d ((order.same d).0 at.0)).0; admitted = at.1 }
+            record { candidate = (filter-Contains (is_under_any fronted.fronts) candidates d (subst (λ ds. Contains ds d) fronted.are at.0)).0; admitted = at.1 }
             ),
         λ w. kept-Contains d selected
-            ((order.same d).1 (Contains-filter (is_under_any fronted.fronts) candidates d w.candidate
-            (fronted.named d.name w.admitted))) w.admitted,
+            (subst (λ ds. Contains ds d) (sym fronted.are)
+            (Contains-filter (is_under_any fronted.fronts) candidates d w.candidate (fronted.named d.name w.admitted))) w.admitted,
       );
     }
 
-pub counted : (s : State) (pattern : Pattern) (formula : Formula) → IsMetAs pattern.line formula → (members : List ℕ)
-    → members ≡ map (λ d. d.number) (filter (meets formula) s.documents) → length members ≡ length (candidates_of s pattern.line)
-counted s pattern formula same members are =
-    ap length are ∙ (length-map (filter (meets formula) s.documents) (λ d. d.number) ∙ ap length (candidates_are s pattern.line formula same))
-
-length-filter : (p : Document → Bool) (ds : List Document) → length (filter p ds) ≤ length ds
-length-filter p [] = omega arith
-length-filter p (d ∷ ds) = go (p d) (length-filter p ds)
-  where
-    go : (t : Bool) → length (filter p ds) ≤ length ds → length (cond t (d ∷ filter p ds) (filter p ds)) ≤ length (d ∷ ds)
-    go true h = omega arith
-    go false h = omega arith
-
-pub fewer : (s : State) (formula : Formula) (members : List ℕ) → members ≡ map (λ d. d.number) (filter (meets formula) s.documents)
-    → length members ≤ length s.documents
-fewer s formula members are =
-    omega (arith, ap length are, length-map (filter (meets formula) s.documents) (λ d. d.number), length-filter (meets formula) s.documents)
+pub counted : (s : State) (pattern : Pattern) (formula : Formula) → IsMetAs pattern.line formula
+    → length (filter (meets formula) (listed s.documents)) ≡ length (candidates_of s pattern.line)
+counted s pattern formula same = ap length (candidates_are s pattern.line formula same)
 
 -- ---- what names begin with
 

@@ -1,12 +1,13 @@
 -- From what is shown of the first candidates to what is shown of all of them.
 use Rattle.std.proofs.Common.{◌≡◌, ℕ, suc, ◌⊎◌, inl, inr, Bool, true, false, List, [], ◌∷◌, ◌++◌, map, length, Contains, refl, sym, ◌∙◌, ap, subst, arith}
 use Rattle.std.specs.Prelude.{All}
+use Rattle.std.specs.FinMap.{len}
 use Rattle.std.specs.List.{AllByRecursion}
 use Rattle.std.proofs.lemmas.Bool.{true≢false}
 use Rattle.std.proofs.lemmas.List.{map-append}
 use Rattle.std.proofs.lemmas.List.Elements.{All-cons}
 use Rattle.engine.proofs.LineLemmas.{NoFeed}
-use Rattle.index.specs.Documents.{Document, is_under_any}
+use Rattle.index.specs.Documents.{Document, listed, is_under_any}
 use Rattle.index.specs.Shared.{document_of, documents_shared}
 use Rattle.index.specs.State.{State, IsState}
 use Rattle.index.specs.Text.{IsName}
@@ -36,7 +37,7 @@ use Rattle.search.proofs.ViewLemmas.{All-right}
 
 -- a document as it would have been taken
 abbrev pub shared_of : Document → SharedDocument
-shared_of d = record { number = d.number; name = d.name; held = d.body }
+shared_of d = record { number = 0; name = d.name; held = d.body }
 
 pub shared-others : (taken : List SharedDocument) (others : List Document)
     → documents_shared (taken ++ map shared_of others) ≡ documents_shared taken ++ others
@@ -93,9 +94,10 @@ names-are : (state : State) (pattern : Pattern) (documents : List SharedDocument
     → AllByRecursion (λ d. IsName d.name) documents
 names-are state pattern documents is order =
     each-name documents (λ d there.
-    (let candidate = (filter-Contains (is_under_any order.fronts) (candidates_of state pattern.line) d ((order.in_order.same d).0 there)).0 in
-    let at = (filter-Contains (λ x. can_have pattern.line (trigrams_of_body x.body)) state.documents d candidate).0 in
-    subst (λ (x : Document). IsName x.name) at.2 (is.good at.0 d at.1).2))
+    (let candidate =
+    (filter-Contains (is_under_any order.fronts) (candidates_of state pattern.line) d (subst (λ ds. Contains ds d) order.are there)).0 in
+    let at = (filter-Contains (λ x. can_have pattern.line (trigrams_of_body x.body)) (listed state.documents) d candidate).0 in
+    subst (λ (x : Document). IsName x.name) at.2 (is at.0 d at.1).0))
 
 -- ---- what is shown
 
@@ -104,13 +106,13 @@ pub part-shown : (state : State) (prepared : Prepared) (taken others kept : List
     → IsState state → AreFronted state (pattern_of prepared) (documents_shared (taken ++ others))
     → Selects (IsAdmitted (pattern_of prepared)) taken kept → wanted.prepared.now ≡ prepared → wanted.limit ≡ prepared.limit
     → wanted.view ≡ prepared.view → (HaveOwnNames kept → Joins wanted wanted.limit kept joined) → joined.more ≡ true
-    → (version documents candidates : ℕ) → version ≡ state.version → documents ≡ length state.documents
+    → (version documents candidates : ℕ) → version ≡ state.version → documents ≡ len state.documents
     → candidates ≡ length (candidates_of state (pattern_of prepared).line)
     → IsShownOf state (request_of prepared) (shown_with prepared.view version documents candidates joined)
 part-shown state prepared taken others kept wanted joined is order named is_prepared is_limit is_view joins more version documents candidates is_version
     are_documents are_candidates =
     let names = All-right (λ d. IsName d.name) taken others (names-are state (pattern_of prepared) (taken ++ others) is order) in
     let rest = named-selection (pattern_of prepared) others names in
-    shown-is state prepared (taken ++ others) (kept ++ rest.0) wanted joined order is.names (Selects-append named rest.1) is_prepared is_limit is_view
+    shown-is state prepared (taken ++ others) (kept ++ rest.0) wanted joined order (Selects-append named rest.1) is_prepared is_limit is_view
     (λ own. joins-over wanted wanted.limit kept rest.0 joined own more (joins (own-left kept rest.0 own))) version documents candidates is_version
     are_documents are_candidates

@@ -1,17 +1,13 @@
 -- A state and a pattern have one answer, and a state and a request have one thing that is shown.
-use Rattle.std.proofs.Common.{◌≡◌, ℕ, ◌+◌, ◌<◌, ◌⊎◌, inl, inr, Bool, Option, List, [], ◌∷◌, length, Contains, refl, sym, ◌∙◌, ap, subst, arith}
+use Rattle.std.proofs.Common.{◌≡◌, ℕ, ◌+◌, ◌<◌, inl, inr, Bool, Option, List, ◌∷◌, length, refl, sym, ◌∙◌, ap, subst, arith}
 use Rattle.std.specs.Prelude.{is_some}
 use Rattle.std.specs.Cmp.{IsTotalOrder}
 use Rattle.std.specs.Cmp.Lexicographic.{nat_list_cmp_total}
-use Rattle.std.specs.List.{AllByRecursion}
-use Rattle.std.specs.List.Sorted.{IsStrictlySortedBy}
-use Rattle.std.specs.Ordering.{ordering_reverse}
-use Rattle.std.specs.declared.cmp.Ordering.TheVariants.{Less}
 use Rattle.std.proofs.lemmas.Cmp.{nat_cmp_total, on_total, then_total}
 use Rattle.ere.specs.Tree.{Tree}
-use Rattle.index.specs.Documents.{Document}
+use Rattle.index.specs.Documents.{Document, listed}
 use Rattle.index.specs.State.{State}
-use Rattle.index.proofs.DocumentLemmas.{Contains-cons, Contains-head, Contains-tail}
+use Rattle.index.proofs.RisingLemmas.{same_elements}
 use Rattle.spans.specs.FirstSpan.{AreSpans}
 use Rattle.spans.specs.FirstStart.{IsFirstStart}
 use Rattle.spans.specs.declared.span.Span.{Span}
@@ -31,59 +27,11 @@ use Rattle.search.specs.Rows.{AreRows, IsColumnRow, IsSpansRow, RowsOf, at_most,
 use Rattle.views.specs.View.{Row, at_column, with_spans}
 use Rattle.search.specs.Rows.{RowsOf as rows_of}
 
--- ---- hits
+-- ---- answers
 
 hits_total : IsTotalOrder hit_cmp
 hits_total =
     then_total (on_total (λ f. f.name) nat_list_cmp_total) (on_total (λ f. f.line) nat_cmp_total)
-
-not_both : (x y : Hit) → hit_cmp x y ≡ Less → hit_cmp y x ≡ Less → ⊥
-not_both x y below above =
-    let both : Less ≡ ordering_reverse Less = sym below ∙ hits_total.antisymm x y ∙ ap ordering_reverse above in
-    absurd (cc both)
-
-below_all : (x : Hit) (xs : List Hit) → AllByRecursion (λ y. hit_cmp x y ≡ Less) xs → (y : Hit) → Contains xs y → hit_cmp x y ≡ Less
-below_all x [] all y there = absurd (omega (arith, there.1))
-below_all x (z ∷ xs) all y there = go (below_all x xs all.1 y) (Contains-cons z xs y there)
-  where
-    go : (Contains xs y → hit_cmp x y ≡ Less) → (z ≡ y) ⊎ Contains xs y → hit_cmp x y ≡ Less
-    go deeper (inl same) = subst (λ h. hit_cmp x h ≡ Less) same all.0
-    go deeper (inr later) = deeper later
-
--- Rising lists with the same hits have the same first one,
-same_first : (x y : Hit) (xs ys : List Hit) → AllByRecursion (λ h. hit_cmp x h ≡ Less) xs → AllByRecursion (λ h. hit_cmp y h ≡ Less) ys
-    → Contains (y ∷ ys) x → Contains (x ∷ xs) y → x ≡ y
-same_first x y xs ys low high first second = go (Contains-cons y ys x first) (Contains-cons x xs y second)
-  where
-    go : (y ≡ x) ⊎ Contains ys x → (x ≡ y) ⊎ Contains xs y → x ≡ y
-    go (inl same) other = sym same
-    go (inr later) (inl same) = same
-    go (inr later) (inr after) = absurd (not_both x y (below_all x xs low y after) (below_all y ys high x later))
-
--- and the same ones after it.
-same_rest : (x y : Hit) (xs ys : List Hit) → x ≡ y → AllByRecursion (λ h. hit_cmp x h ≡ Less) xs
-    → ((h : Hit) → Contains (x ∷ xs) h → Contains (y ∷ ys) h) → (h : Hit) → Contains xs h → Contains ys h
-same_rest x y xs ys same low all h there = go (Contains-cons y ys h (all h (Contains-tail x xs h there)))
-  where
-    go : (y ≡ h) ⊎ Contains ys h → Contains ys h
-    go (inl first) =
-        let below : hit_cmp x x ≡ Less = subst (λ z. hit_cmp x z ≡ Less) (sym (same ∙ first)) (below_all x xs low h there) in
-        absurd (not_both x x below below)
-    go (inr later) = later
-
-same_hits : (xs ys : List Hit) → IsStrictlySortedBy hit_cmp xs → IsStrictlySortedBy hit_cmp ys → ((h : Hit) → Contains xs h → Contains ys h)
-    → ((h : Hit) → Contains ys h → Contains xs h) → xs ≡ ys
-unfolding IsStrictlySortedBy
-same_hits [] [] low high there back = refl
-same_hits [] (y ∷ ys) low high there back = let none = back y (Contains-head y ys) in absurd (omega (arith, none.1))
-same_hits (x ∷ xs) [] low high there back = let none = there x (Contains-head x xs) in absurd (omega (arith, none.1))
-same_hits (x ∷ xs) (y ∷ ys) low high there back =
-    let first : x ≡ y = same_first x y xs ys low.0 high.0 (there x (Contains-head x xs)) (back y (Contains-head y ys)) in
-    let rest : xs ≡ ys =
-    same_hits xs ys low.1 high.1 (same_rest x y xs ys first low.0 there) (same_rest y x ys xs (sym first) high.0 back) in
-    ap (λ h. h ∷ xs) first ∙ ap (λ t. y ∷ t) rest
-
--- ---- answers
 
 answer_with : ℕ → List Hit → ℕ → ℕ → Answer
 answer_with version hits documents candidates = record { version = version; hits = hits; documents = documents; candidates = candidates }
@@ -93,7 +41,7 @@ pub one_answer : (state : State) (pattern : Pattern) (answer other : Answer) →
 unfolding answer_with
 one_answer state pattern answer other one two =
     let hits : answer.hits ≡ other.hits =
-    same_hits answer.hits other.hits one.hits.rises two.hits.rises (λ h there. (two.hits.exact h).1 ((one.hits.exact h).0 there))
+    same_elements hits_total answer.hits other.hits one.hits.rises two.hits.rises (λ h there. (two.hits.exact h).1 ((one.hits.exact h).0 there))
     (λ h there. (one.hits.exact h).1 ((two.hits.exact h).0 there)) in
     ap (λ v. answer_with v answer.hits answer.documents answer.candidates) (one.version ∙ sym two.version)
     ∙ ap (λ h. answer_with other.version h answer.documents answer.candidates) hits
@@ -197,8 +145,8 @@ one_shown law state request shown other one two =
     let times = shown.times in
     let answer : one.answer ≡ two.answer = one_answer state request.pattern one.answer two.answer one.is_answer two.is_answer in
     let rows : one.rows ≡ two.rows =
-    one_list_of_rows law request request.view state.documents two.answer.hits one.rows two.rows
-    (subst (λ a. AreRows request request.view state.documents a.hits one.rows) answer one.are_rows) two.are_rows in
+    one_list_of_rows law request request.view (listed state.documents) two.answer.hits one.rows two.rows
+    (subst (λ a. AreRows request request.view (listed state.documents) a.hits one.rows) answer one.are_rows) two.are_rows in
     shown_is by times state request shown one ∙ ap (λ a. shown_with request a one.rows by times) answer
     ∙ ap (λ rs. shown_with request two.answer rs by times) rows ∙ sym (shown_is by times state request other two)
 

@@ -1,5 +1,5 @@
 -- The lines of documents, and the scan of all of them.
-use Rattle.std.proofs.Common.{◌≡◌, ℕ, zero, suc, ◌+◌, ◌-◌, ◌<◌, ◌⊎◌, inl, inr, List, [], ◌∷◌, ◌++◌, map}
+use Rattle.std.proofs.Common.{◌≡◌, ℕ, zero, suc, ◌+◌, ◌-◌, ◌<◌, ◌⊎◌, inl, inr, List, [], ◌∷◌, ◌++◌}
 use Rattle.std.proofs.Common.{Some, Contains, refl, sym, ◌∙◌, ap, subst, arith}
 use Rattle.std.specs.Prelude.{◌↔◌, slice_get, flat_map, Bool, true, false}
 use Rattle.std.specs.Ordering.{nat_cmp}
@@ -13,7 +13,7 @@ use Rattle.std.proofs.lemmas.Option.{slice_get_within, get_or_from_slice_get}
 use Rattle.lines.specs.Lines.{lines_of}
 use Rattle.query.specs.Trigrams.{trigrams_of_body}
 use Rattle.trigram.proofs.LawLemmas.{matching_line}
-use Rattle.index.specs.Documents.{Document, RisesByName}
+use Rattle.index.specs.Documents.{Document, RisesByName, listed}
 use Rattle.index.specs.State.{State}
 use Rattle.index.proofs.DocumentLemmas.{Contains-cons, Contains-head, Contains-tail}
 use Rattle.ere.specs.Tree.{Tree}
@@ -158,7 +158,7 @@ lower_name : (f g : Hit) → slice_cmp nat_cmp f.name g.name ≡ Less → hit_cm
 lower_name f g e = rw e refl
 
 all-lines-above : (name : List ℕ) (f : Hit) → f.name ≡ name → (documents : List Document)
-    → AllByRecursion (λ n. slice_cmp nat_cmp name n ≡ Less) (map (λ d. d.name) documents)
+    → AllByRecursion (λ d. slice_cmp nat_cmp name d.name ≡ Less) documents
     → AllByRecursion (λ y. hit_cmp f y ≡ Less) (all_lines documents)
 all-lines-above name f is [] each = tt
 all-lines-above name f is (d ∷ documents) each =
@@ -195,10 +195,10 @@ pub record AreWanted (state : State) (pattern : Pattern) (wanted : List Document
   pub exact : (d : Document) → Contains wanted d ↔ IsWanted state pattern d
 
 -- a document with a hit is a candidate
-candidate : (s : State) (pattern : Pattern) (d : Document) (i : ℕ) (text : List ℕ) → Contains s.documents d
+candidate : (s : State) (pattern : Pattern) (d : Document) (i : ℕ) (text : List ℕ) → Contains (listed s.documents) d
     → slice_get (lines_of d.body) i ≡ Some text → Passes pattern.line text → Contains (candidates_of s pattern.line) d
 candidate s pattern d i text there at hit =
-    Contains-filter (λ x. can_have pattern.line (trigrams_of_body x.body)) s.documents d there
+    Contains-filter (λ x. can_have pattern.line (trigrams_of_body x.body)) (listed s.documents) d there
     (go pattern.line.inverted hit)
   where
     tree : Tree
@@ -227,7 +227,7 @@ IsScanOf-wanted s pattern wanted hits are kept = record {
         let place : at.i ≡ f.line - 1 = omega (arith, at.at) in
         record {
           document = line.0;
-          there = (filter-Contains (λ x. can_have pattern.line (trigrams_of_body x.body)) s.documents line.0 is.candidate).0;
+          there = (filter-Contains (λ x. can_have pattern.line (trigrams_of_body x.body)) (listed s.documents) line.0 is.candidate).0;
           named = at.named;
           counted = omega (arith, at.at);
           line = ap (λ n. slice_get (lines_of line.0.body) n) (sym place) ∙ at.text;

@@ -1,14 +1,10 @@
 -- What is kept of a list: lines, one document after another, and documents.
-use Rattle.std.proofs.Common.{◌≡◌, ℕ, inl, inr, List, ◌∷◌, ◌++◌, map, Contains, sym, subst, arith}
-use Rattle.std.specs.Ordering.{nat_cmp}
-use Rattle.std.specs.Cmp.Lexicographic.{slice_cmp}
+use Rattle.std.proofs.Common.{◌≡◌, inl, inr, List, ◌∷◌, ◌++◌, map, Contains, sym, subst, arith}
 use Rattle.std.specs.List.{AllByRecursion}
 use Rattle.std.specs.List.Sorted.{IsStrictlySortedBy}
 use Rattle.std.specs.declared.cmp.Ordering.{Ordering}
 use Rattle.std.specs.declared.cmp.Ordering.TheVariants.{Less}
-use Rattle.index.specs.Documents.{Document, RisesByName}
 use Rattle.index.proofs.DocumentLemmas.{Contains-cons, Contains-head, Contains-tail}
-use Rattle.views.specs.Found.{Hit}
 use Rattle.search.specs.Selects.{Selects, done, keep, skip}
 
 pub Selects-append : {X : Type 0} {Has : X → Type 0} {xs ys a b : List X} → Selects Has xs a → Selects Has ys b → Selects Has (xs ++ ys) (a ++ b)
@@ -29,25 +25,12 @@ All-Selects P done each = tt
 All-Selects P (keep h r) each = (each.0, All-Selects P r each.1)
 All-Selects P (skip h r) each = All-Selects P r each.1
 
-pub sorted-Selects : {Has : Hit → Type 0} {all kept : List Hit} (cmp : Hit → Hit → Ordering) → Selects Has all kept
+pub sorted-Selects : {X : Type 0} {Has : X → Type 0} {all kept : List X} (cmp : X → X → Ordering) → Selects Has all kept
     → IsStrictlySortedBy cmp all → IsStrictlySortedBy cmp kept
 unfolding IsStrictlySortedBy
 sorted-Selects cmp done sorted = tt
 sorted-Selects cmp (keep {x = f} h r) sorted = (All-Selects (λ y. cmp f y ≡ Less) r sorted.0, sorted-Selects cmp r sorted.1)
 sorted-Selects cmp (skip h r) sorted = sorted-Selects cmp r sorted.1
-
-names-Selects : {Has : Document → Type 0} {all kept : List Document} (name : List ℕ) → Selects Has all kept
-    → AllByRecursion (λ n. slice_cmp nat_cmp name n ≡ Less) (map (λ d. d.name) all)
-    → AllByRecursion (λ n. slice_cmp nat_cmp name n ≡ Less) (map (λ d. d.name) kept)
-names-Selects name done each = tt
-names-Selects name (keep h r) each = (each.0, names-Selects name r each.1)
-names-Selects name (skip h r) each = names-Selects name r each.1
-
-pub rises-Selects : {Has : Document → Type 0} {all kept : List Document} → Selects Has all kept → RisesByName all → RisesByName kept
-unfolding IsStrictlySortedBy
-rises-Selects done rises = tt
-rises-Selects (keep {x} h r) rises = (names-Selects x.name r rises.0, rises-Selects r rises.1)
-rises-Selects (skip h r) rises = rises-Selects r rises.1
 
 -- the kept are those that have the property
 pub Contains-kept : {X : Type 0} {Has : X → Type 0} {all kept : List X} (x : X) → Selects Has all kept → Contains kept x → Contains all x × Has x

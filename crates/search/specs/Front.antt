@@ -1,7 +1,7 @@
 -- The candidates whose names begin with texts with one of which every name begins that is asked for.
-use Rattle.std.specs.Prelude.{List, ℕ, filter, IsTrue}
+use Rattle.std.specs.Prelude.{◌≡◌, List, ℕ, filter, IsTrue}
 use Rattle.prefixes.specs.Under.{is_under_one}
-use Rattle.index.specs.Documents.{Document, IsInNameOrder, is_under_any}
+use Rattle.index.specs.Documents.{Document, is_under_any}
 use Rattle.index.specs.State.{State}
 use Rattle.prepare.specs.Pattern.{Admits, Pattern}
 use Rattle.search.specs.Scan.{candidates_of}
@@ -10,8 +10,8 @@ use Rattle.search.specs.Scan.{candidates_of}
 abbrev pub AreFronts : Pattern → List (List ℕ) → Type 0
 AreFronts pattern fronts = (name : List ℕ) → Admits pattern name → IsTrue (is_under_one fronts name)
 
--- all candidates whose names begin with such texts, each once, rising by name
+-- all candidates whose names begin with such texts, rising by name
 pub record AreFronted (state : State) (pattern : Pattern) (documents : List Document) : Type 0 where
   pub fronts : List (List ℕ)
   pub named : AreFronts pattern fronts
-  pub in_order : IsInNameOrder (filter (is_under_any fronts) (candidates_of state pattern.line)) documents
+  pub are : documents ≡ filter (is_under_any fronts) (candidates_of state pattern.line)

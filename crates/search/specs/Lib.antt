@@ -1,5 +1,4 @@
 pub mod Scan
-pub mod CalledOff
 pub mod Front
 pub mod Selects
 pub mod Commands

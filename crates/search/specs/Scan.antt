@@ -2,11 +2,12 @@
 use Rattle.std.specs.Prelude.{◌≡◌, ◌-◌, ◌<◌, List, length, Some, slice_get, filter, Contains, ◌↔◌}
 use Rattle.std.specs.Ordering.{nat_cmp, then_cmp, on}
 use Rattle.std.specs.Cmp.Lexicographic.{slice_cmp}
+use Rattle.std.specs.FinMap.{len}
 use Rattle.std.specs.List.Sorted.{IsStrictlySortedBy}
 use Rattle.std.specs.declared.cmp.Ordering.{Ordering}
 use Rattle.lines.specs.Lines.{lines_of}
 use Rattle.query.specs.Trigrams.{trigrams_of_body}
-use Rattle.index.specs.Documents.{Document}
+use Rattle.index.specs.Documents.{Document, listed}
 use Rattle.index.specs.State.{State}
 use Rattle.prepare.specs.Pattern.{Admits, Test, Passes, Pattern}
 use Rattle.prepare.specs.Queries.{can_have}
@@ -15,7 +16,7 @@ use Rattle.views.specs.Found.{Answer, Hit}
 -- The pattern asks for this line of some document.
 pub record IsHit (state : State) (pattern : Pattern) (found : Hit) : Type 0 where
   pub document : Document
-  pub there : Contains state.documents document
+  pub there : Contains (listed state.documents) document
   pub named : found.name ≡ document.name
   pub counted : 0 < found.line
   pub line : slice_get (lines_of document.body) (found.line - 1) ≡ Some found.text
@@ -33,10 +34,10 @@ pub record IsScanOf (state : State) (pattern : Pattern) (scan : List Hit) : Type
 
 -- the documents whose trigrams let them have a line that passes the test
 abbrev pub candidates_of : State → Test → List Document
-candidates_of state test = filter (λ d. can_have test (trigrams_of_body d.body)) state.documents
+candidates_of state test = filter (λ d. can_have test (trigrams_of_body d.body)) (listed state.documents)
 
 pub record IsAnswerOf (state : State) (pattern : Pattern) (answer : Answer) : Type 0 where
   pub version : answer.version ≡ state.version
   pub hits : IsScanOf state pattern answer.hits
-  pub documents : answer.documents ≡ length state.documents
+  pub documents : answer.documents ≡ len state.documents
   pub candidates : answer.candidates ≡ length (candidates_of state pattern.line)

@@ -1,5 +1,6 @@
 -- When what a client gets is what a request shows of the answer in a state.
 use Rattle.std.specs.Prelude.{◌≡◌, List, length}
+use Rattle.index.specs.Documents.{listed}
 use Rattle.index.specs.State.{State}
 use Rattle.prepare.specs.Request.{Request}
 use Rattle.search.specs.Rows.{AreRows, at_most, is_over, total}
@@ -14,7 +15,7 @@ pub record IsShownOf (state : State) (request : Request) (shown : Shown) : Type 
   pub answer : Answer
   pub is_answer : IsAnswerOf state request.pattern answer
   pub rows : List Row
-  pub are_rows : AreRows request request.view state.documents answer.hits rows
+  pub are_rows : AreRows request request.view (listed state.documents) answer.hits rows
   pub view : shown.view ≡ request.view
   pub version : shown.version ≡ answer.version
   pub count : shown.count ≡ at_most request.limit (total request.view answer.hits)

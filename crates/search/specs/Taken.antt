@@ -1,5 +1,6 @@
 -- What a search has taken out of an index.
 use Rattle.std.specs.Prelude.{◌≡◌, ◌++◌, List, length}
+use Rattle.std.specs.FinMap.{len}
 use Rattle.index.specs.Shared.{documents_shared}
 use Rattle.index.specs.State.{State, IsState}
 use Rattle.index.specs.declared.document.SharedDocument.{SharedDocument}
@@ -17,7 +18,7 @@ use Rattle.search.specs.Scan.{candidates_of}
 pub record IsTakenAmong (all : List SharedDocument) (state : State) (request : Request) (taken : Taken) : Type 0 where
   pub prepared : request_of taken.prepared.now ≡ request
   pub version : taken.version ≡ state.version
-  pub documents : taken.documents ≡ length state.documents
+  pub documents : taken.documents ≡ len state.documents
   pub count : taken.count ≡ length (candidates_of state request.pattern.line)
   pub is_state : IsState state
   pub candidates : AreFronted state request.pattern (documents_shared all)

@@ -1,16 +1,15 @@
 //! The text of an answer that is formed ahead.
 
 ghost use Rattle.std.specs.Prelude.{◌≡◌, ◌≤◌, ◌++◌, length, take, IfOk, IfErr};
-ghost use Rattle.search.specs.CalledOff.{IsCalledOffOnlyIf};
+ghost use Rattle.watch.specs.CalledOff.{IsCalledOffOnlyIf};
 ghost use Rattle.views.specs.Hits.{hit_of};
 ghost use Rattle.views.specs.Text.{text_of_hits};
 
-use crate::unanswered::Unanswered;
-use crate::watch::{Watch, ask};
 use views::{Lines, append_hit};
+use watch::{Unanswered, Watch, ask};
 
 /// So many bytes of text are formed between two looks whether the answer is still wanted.
-const LOOK: usize = 65_536;
+pub(crate) const LOOK: usize = 65_536;
 
 /// Appends the text of the first of these lines, until `out` has `most` bytes; returns how many lines these are. `watch` is
 /// asked whether the answer is wanted before each `LOOK` bytes.

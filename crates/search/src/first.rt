@@ -1,18 +1,18 @@
 //! What a search with a limit takes out of an index first.
 
-ghost use Rattle.std.specs.Prelude.{IfOk};
+ghost use Rattle.std.specs.Prelude.{IfOk, IfErr};
+ghost use Rattle.watch.specs.CalledOff.{IsCalledOffOnlyIf};
 ghost use Rattle.prepare.specs.Prepared.{request_of};
 ghost use Rattle.search.specs.Taken.{IsFirstOf};
 
 use crate::names::named;
 use crate::side_by_side::{documents_with, gather_part};
 use crate::taken::{Taken, take_up_to, wanted_by, with_counts};
-use crate::unanswered::Unanswered;
-use crate::watch::Watch;
 use index::Index;
 use prepare::Prepared;
 use std::alloc::{AllocError, Global};
 use views::Shown;
+use watch::{Unanswered, Watch};
 
 /// The first candidates have about so many bytes of bodies at most, unless the first of them has more by itself. If they
 /// are not enough, they are looked through in vain.
@@ -37,20 +37,23 @@ pub struct FirstPart<'p> {
 /// The same as `take`, but if there are `most` candidates or more, only the first ones are taken, in the order of their
 /// names: `most`, or fewer if their bodies are long.
 ///
-/// An `Err` means that memory ran out, or that a name or a body has too many handles.
-pub fn take_first<'p>(
+/// `watch` can call the search off: `CalledOff` is returned only after `watch.wants()` said `false`, and nothing is asked after that.
+/// `OutOfMemory` means that memory ran out, or that a name or a body has too many handles.
+pub fn take_first<'p, W: Watch>(
     alloc: Global,
     index: &Index,
     prepared: &'p Prepared,
     most: usize,
-) -> Result<First<'p>, AllocError>
-    ensures { IfOk result (IsFirstOf index.now (request_of prepared.now)) }
+    watch: &mut W,
+) -> Result<First<'p>, Unanswered>
+    ensures first { IfOk result (IsFirstOf index.now (request_of prepared.now)) }
+    ensures called_off { IfErr result (IsCalledOffOnlyIf (W.has_said_no watch.new)) }
 {
-    let mut taken = take_up_to(alloc, index, prepared, most)?;
+    let mut taken = take_up_to(alloc, index, prepared, most, watch)?;
     if taken.candidates.len() < most {
         return Ok(First::All(taken));
     }
-    let few = documents_with(taken.candidates.as_slice(), FIRST_BYTES);
+    let few = documents_with(taken.candidates.as_slice(), FIRST_BYTES, watch)?;
     taken.candidates.truncate(few);
     Ok(First::Part(FirstPart { taken }))
 }
@@ -59,7 +62,7 @@ impl FirstPart<'_> {
     ghost use Rattle.std.specs.Prelude.{IfOk, IfErr, IfSome, IfNone};
     ghost use Rattle.index.specs.State.{State};
     ghost use Rattle.prepare.specs.Request.{Request};
-    ghost use Rattle.search.specs.CalledOff.{IsCalledOffOnlyIf};
+    ghost use Rattle.watch.specs.CalledOff.{IsCalledOffOnlyIf};
     ghost use Rattle.search.specs.Shown.{IsShownOf};
     ghost use Rattle.search.specs.Taken.{IsPartOf};
 

@@ -3,8 +3,8 @@
 ghost use Rattle.std.specs.List.Sorted.{IsStrictlyIncreasing};
 ghost use Rattle.std.specs.Prelude.{All, map, ◌≡◌, ◌+◌, ◌≤◌, ◌∷◌, [], false, length, take, drop, IfOk, IfErr, OnOk};
 ghost use Rattle.ere.specs.Tree.{form};
-ghost use Rattle.search.specs.CalledOff.{IsCalledOffOnlyIf};
-ghost use Rattle.search.specs.declared.unanswered.Unanswered.TheVariants.{OutOfMemory};
+ghost use Rattle.watch.specs.CalledOff.{IsCalledOffOnlyIf};
+ghost use Rattle.watch.specs.declared.unanswered.Unanswered.TheVariants.{OutOfMemory};
 ghost use Rattle.search.specs.Private.Gathered.{Gathers, GathersMore, HaveOwnNames, AddsRows, all_or_one, asked, beyond, kept_of, left_from, number_of, one_more, shown_hits, shows_lines};
 ghost use Rattle.search.specs.Private.Seekers.{CanShow, IsOneLine};
 ghost use Rattle.search.specs.Private.Ways.{AreFew, Finds};
@@ -14,14 +14,13 @@ ghost use Rattle.views.specs.View.{shows_names};
 use crate::matching::{few_documents, scan_document};
 use crate::rows::append_rows;
 use crate::seeker::{Seeker, compile_shown, shown_seeker};
-use crate::unanswered::Unanswered;
-use crate::watch::{Watch, ask};
 use crate::way::{Way, compile_for_lines, found_by, way_by};
 use index::SharedDocument;
 use prepare::Prepared;
 use request::View;
 use std::alloc::Global;
 use views::{FoundBy, Lines, Places};
+use watch::{Unanswered, Watch, ask};
 
 /// What is to be gathered.
 #[derive(Clone, Copy)]

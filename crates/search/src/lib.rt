@@ -15,13 +15,10 @@ mod scan;
 mod seeker;
 mod side_by_side;
 mod taken;
-mod unanswered;
-mod watch;
 mod way;
 
 pub use first::{First, FirstPart, take_first};
 pub use laws::{answers_follow_commands, one_answer, one_shown, times_show_nothing};
 pub use scan::find;
-pub use taken::{Taken, take};
-pub use unanswered::Unanswered;
-pub use watch::Watch;
+pub use taken::{Taken, take, take_watched};
+pub use watch::{NoWatch, Unanswered, Watch};

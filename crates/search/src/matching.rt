@@ -4,7 +4,7 @@ ghost use Rattle.std.specs.Prelude.{◌≡◌, ◌≢◌, ◌<◌, ◌≤◌, �
 ghost use Rattle.ere.specs.Tree.{Tree, form};
 ghost use Rattle.index.specs.Text.{greatest_body};
 ghost use Rattle.engine.specs.Patterns.{IsFinderOf, IsLineFinderOf};
-ghost use Rattle.search.specs.CalledOff.{IsCalledOffOnlyIf};
+ghost use Rattle.watch.specs.CalledOff.{IsCalledOffOnlyIf};
 ghost use Rattle.prepare.specs.Pattern.{with_match};
 ghost use Rattle.prepare.specs.Tests.{test_of};
 ghost use Rattle.views.specs.Places.{hits_at, IsPlaced};
@@ -15,8 +15,6 @@ ghost use Rattle.search.specs.Private.Documents.{lines_of_taken};
 ghost use Rattle.search.specs.Private.Ways.{Finds, AreFew};
 
 use crate::piece::piece_end;
-use crate::unanswered::Unanswered;
-use crate::watch::{Watch, ask};
 use crate::way::{Way, passes, piece_for};
 use engine::{Finder, lines_before};
 use index::{Body, SharedDocument};
@@ -25,6 +23,7 @@ use memchr::memchr;
 use prepare::Test;
 use std::alloc::AllocError;
 use views::{Place, Places};
+use watch::{Unanswered, Watch, ask};
 
 /// How many bytes of bodies are looked at line by line before a pattern is compiled. Compiling one takes about
 /// as long as the matcher takes for this many bytes: it was measured to be 4 to 7 KB with a literal, 7 to 25 KB
@@ -128,7 +127,7 @@ fn add_document<W: Watch>(
     let before = places.len();
     scan_body(test, way, number, document.held.body(), most, places, watch)?;
     if places.len() != before {
-        documents.push(share(document)?)?;
+        documents.push(document.share()?)?;
     }
     Ok(())
 }
@@ -323,15 +322,4 @@ fn scan_line<W: Watch>(
         end: offset + text.len() as u32,
     })?;
     Ok(())
-}
-
-/// Another handle to the document. An `Err` means that its name or its body has too many handles.
-fn share(document: &SharedDocument) -> Result<SharedDocument, AllocError>
-    ensures { IfOk result (λ shared. shared ≡ document.now) }
-{
-    Ok(SharedDocument {
-        number: document.number,
-        name: document.name.share()?,
-        held: document.held.share()?,
-    })
 }

@@ -3,19 +3,18 @@
 ghost use Rattle.std.specs.Prelude.{IfOk, IfErr, map, take};
 ghost use Rattle.ere.specs.Tree.{form};
 ghost use Rattle.ere.specs.Limits.{IsWithinLimits};
-ghost use Rattle.search.specs.CalledOff.{IsCalledOffOnlyIf};
+ghost use Rattle.watch.specs.CalledOff.{IsCalledOffOnlyIf};
 ghost use Rattle.prepare.specs.Prepared.{pattern_of};
 ghost use Rattle.prepare.specs.Tests.{test_of};
 ghost use Rattle.search.specs.Selects.{Selects, IsAdmitted, IsNamed};
 ghost use Rattle.search.specs.Private.Ways.{Finds, IsBegun};
 
-use crate::unanswered::Unanswered;
-use crate::watch::{Watch, ask};
 use crate::way::{Way, compile_for_lines, passes, way_by};
 use index::SharedDocument;
 use matcher::is_quick;
 use prepare::{Prepared, Test};
 use std::alloc::Global;
+use watch::{Unanswered, Watch, ask};
 
 /// Those of the documents whose names are asked for by what they begin with and, each taken as a line, pass the tests of
 /// names, in the same order. Without prefixes and tests these are all documents. `watch` is asked whether the answer is wanted

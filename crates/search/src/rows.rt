@@ -6,7 +6,7 @@ ghost use Rattle.std.specs.List.Sorted.{IsStrictlyIncreasing};
 ghost use Rattle.lines.specs.Lines.{lines_of};
 ghost use Rattle.spans.specs.FirstSpan.{AreSpans};
 ghost use Rattle.spans.specs.declared.span.Span.{Span};
-ghost use Rattle.search.specs.CalledOff.{IsCalledOffOnlyIf};
+ghost use Rattle.watch.specs.CalledOff.{IsCalledOffOnlyIf};
 ghost use Rattle.views.specs.Hits.{hit_of};
 ghost use Rattle.prepare.specs.Prepared.{request_of};
 ghost use Rattle.views.specs.Text.{text_of_place, text_of_row, text_of_rows, text_of_span, text_of_spans};
@@ -16,10 +16,9 @@ ghost use Rattle.search.specs.Private.Gathered.{formed_of};
 ghost use Rattle.search.specs.Private.Rows.{AreRowsOf, IsMatchRow};
 ghost use Rattle.search.specs.Private.Seekers.{CanShow, IsOneLine, Seeks};
 
+use crate::ahead::LOOK;
 use crate::gathered::Wanted;
 use crate::seeker::Seeker;
-use crate::unanswered::Unanswered;
-use crate::watch::Watch;
 use index::SharedDocument;
 use prepare::Prepared;
 use request::View;
@@ -28,10 +27,11 @@ use views::{
     Hit, Lines, append_all, append_at_column, append_count, append_hit, append_name, append_place,
     append_span, append_stretches,
 };
+use watch::{Pace, Unanswered, Watch};
 
 /// Appends the rows of one document, of which these hits are shown, but where lines alone are shown, whose text is formed later;
 /// returns how many rows they are. `seeker` finds the matches within lines, if these are shown. `watch` is asked whether the answer
-/// is wanted before each pass over a line.
+/// is wanted before each pass over a line, and at each 64 KiB of lines that are passed for what is near hits.
 ///
 /// `CalledOff` is returned once `watch` says that the answer is not wanted, and `OutOfMemory` means that memory ran
 /// out. After an `Err`, `out` has any bytes.
@@ -55,7 +55,7 @@ pub(crate) fn append_rows<W: Watch>(
     let prepared = wanted.prepared;
     match wanted.view {
         View::Lines => Ok(hits.len()),
-        View::Context(most) => Ok(append_stretches(out, prepared.zero, most, document, hits)?),
+        View::Context(most) => append_stretches(out, prepared.zero, most, document, hits, watch),
         View::Column => match seeker {
             Some(seeker) => append_matched(out, prepared, false, hits, seeker, watch),
             // There is one.
@@ -74,7 +74,8 @@ pub(crate) fn append_rows<W: Watch>(
 
 // ---- matches within lines
 
-/// Appends each hit with the spans of its matches if `spans`, and otherwise with the column of the first one.
+/// Appends each hit with the spans of its matches if `spans`, and otherwise with the column of the first one. Beside what `append_rows`
+/// says, `watch` is asked at each 64 KiB that are appended, since an empty match at a line's start is known without a pass.
 fn append_matched<W: Watch>(
     out: &mut Vec<u8>,
     prepared: &Prepared,
@@ -90,7 +91,9 @@ fn append_matched<W: Watch>(
         × (n ≡ length rows) × (out.new.items ≡ out.old.items ++ text_of_rows prepared.now.zero rows)) }
     ensures called_off { IfErr result (IsCalledOffOnlyIf (W.has_said_no watch.new)) }
 {
+    let mut pace = Pace::each(LOOK);
     for found in hits.again() {
+        pace.look_after(found.size(), watch)?;
         append_match(out, prepared, spans, seeker, &found, watch)?;
     }
     Ok(hits.len())

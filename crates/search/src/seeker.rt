@@ -8,14 +8,12 @@ ghost use Rattle.spans.specs.FirstSpan.{HasNoSpan, IsFirstSpan, IsMatchAt};
 ghost use Rattle.spans.specs.FirstStart.{HasNoStart, IsFirstStart};
 ghost use Rattle.spans.specs.Passes.{IsLongestEnd, NoSpanBegins, SomeSpanBegins};
 ghost use Rattle.spans.specs.Sides.{is_word_before};
-ghost use Rattle.search.specs.CalledOff.{IsCalledOffOnlyIf};
+ghost use Rattle.watch.specs.CalledOff.{IsCalledOffOnlyIf};
 ghost use Rattle.prepare.specs.Prepared.{request_of};
 ghost use Rattle.search.specs.Private.Seekers.{CanShow, IsLeastStart, IsOneLine, IsTried, shows_matches};
 ghost use Rattle.search.specs.Rows.{shown_tree};
 
 use crate::gathered::Wanted;
-use crate::unanswered::Unanswered;
-use crate::watch::{Watch, ask};
 use crate::way::compile;
 use engine::{Compiled, Finder};
 use ere::{Ere, is_word_byte};
@@ -25,6 +23,7 @@ use simulation::Simulation;
 use spans::Span;
 use std::alloc::{AllocError, Global};
 use std::ops::Range;
+use watch::{Unanswered, Watch, ask};
 
 /// How many starts of matches are tried, each as the start of a span. Almost always the first one is a span's. If none of
 /// these is, the start is found by halving, so that the number of passes over a line is bounded.
@@ -54,7 +53,7 @@ impl<'p> Seeker<'p> {
     ghost use Rattle.engine.specs.Patterns.{IsCompiledFrom};
     ghost use Rattle.spans.specs.FirstSpan.{HasNoSpan, IsFirstSpan};
     ghost use Rattle.spans.specs.FirstStart.{HasNoStart, IsFirstStart};
-    ghost use Rattle.search.specs.CalledOff.{IsCalledOffOnlyIf};
+    ghost use Rattle.watch.specs.CalledOff.{IsCalledOffOnlyIf};
     ghost use Rattle.search.specs.Private.Seekers.{IsOneLine, IsTried, Seeks};
 
     /// A seeker of the tree's matches. It uses the compiled pattern of the tree, if there is one and there is memory for it.

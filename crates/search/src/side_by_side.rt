@@ -2,8 +2,8 @@
 
 ghost use Rattle.std.specs.Prelude.{◌≡◌, ◌≤◌, ◌++◌, false, length, drop, ◌+◌, List, IfOk, IfErr, OnOk, IsTrue, ◌⊎◌};
 ghost use Rattle.index.specs.declared.document.SharedDocument.{SharedDocument};
-ghost use Rattle.search.specs.CalledOff.{IsCalledOffOnlyIf};
-ghost use Rattle.search.specs.declared.unanswered.Unanswered.TheVariants.{OutOfMemory};
+ghost use Rattle.watch.specs.CalledOff.{IsCalledOffOnlyIf};
+ghost use Rattle.watch.specs.declared.unanswered.Unanswered.TheVariants.{OutOfMemory};
 ghost use Rattle.search.specs.Private.Gathered.{HasGap, HaveOwnNames, Joins, cut_gap, gap_rows, left_from, shows_context};
 ghost use Rattle.views.specs.Parts.{text_of_parts};
 ghost use Rattle.views.specs.Text.{text_of_hits, text_of_rows};
@@ -13,17 +13,19 @@ ghost use denote.Param.Send.{IsSync, IsSend};
 use crate::ahead::append_first;
 use crate::gathered::{Gathered, Wanted, gather, is_over, left_of, sum_of};
 use crate::matching::body_size;
-use crate::unanswered::Unanswered;
-use crate::watch::Watch;
 use index::SharedDocument;
 use request::View;
 use std::alloc::Global;
 use std::thread::{Threads, join};
 use views::{FoundBy, Passage, Places};
+use watch::{Pace, Unanswered, Watch};
 
 /// A part has at least so many bytes of bodies. To start a thread and to wait for it takes as long as to look through some
 /// twentieth of that.
 const PART: usize = 524_288;
+
+/// How many documents' lengths are added up between two looks at whether the answer is wanted.
+const DOCUMENTS: usize = 8192;
 
 /// What stands between two stretches of lines.
 const GAP: &[u8] = b"--\n";
@@ -61,32 +63,45 @@ pub(crate) fn gather_side_by_side<R: Threads + Sync, W: Watch + Copy + Send>(
     ensures joins { IfOk result (λ joined. HaveOwnNames documents.now → Joins wanted.now wanted.now.limit documents.now joined) }
     ensures called_off { IfErr result (IsCalledOffOnlyIf ((w : W) × W.has_said_no w)) }
 {
-    let parts = (bytes_of(documents) / PART).min(most).max(1);
+    let mut own = watch;
+    let bytes = bytes_of(documents, &mut own)?;
+    let parts = (bytes / PART).min(most).max(1);
     gather_parts(rt, alloc, wanted, documents, parts, ahead / parts, watch)
 }
 
-/// The bytes of the documents' bodies together.
-fn bytes_of(documents: &[SharedDocument]) -> usize {
+/// The bytes of the documents' bodies together. An `Err` is `CalledOff`.
+fn bytes_of<W: Watch>(documents: &[SharedDocument], watch: &mut W) -> Result<usize, Unanswered>
+    ensures { IfErr result (IsCalledOffOnlyIf (W.has_said_no watch.new)) }
+{
+    let mut pace = Pace::each(DOCUMENTS);
     let mut bytes: usize = 0;
     for document in documents {
+        pace.look(watch)?;
         bytes = bytes.saturating_add(body_size(document));
     }
-    bytes
+    Ok(bytes)
 }
 
-/// How many documents, from the first on, have so many bytes together. No answer depends on it.
-pub(crate) fn documents_with(documents: &[SharedDocument], bytes: usize) -> usize
-    ensures { result ≤ length documents.now }
+/// How many documents, from the first on, have so many bytes together. No answer depends on it. An `Err` is `CalledOff`.
+pub(crate) fn documents_with<W: Watch>(
+    documents: &[SharedDocument],
+    bytes: usize,
+    watch: &mut W,
+) -> Result<usize, Unanswered>
+    ensures within { IfOk result (λ count. count ≤ length documents.now) }
+    ensures called_off { IfErr result (IsCalledOffOnlyIf (W.has_said_no watch.new)) }
 {
+    let mut pace = Pace::each(DOCUMENTS);
     let mut left = bytes;
     for at in 0..documents.len() {
+        pace.look(watch)?;
         let size = body_size(&documents[at]);
         if size >= left {
-            return at + 1;
+            return Ok(at + 1);
         }
         left -= size;
     }
-    documents.len()
+    Ok(documents.len())
 }
 
 /// What is shown of these documents, gathered in so many parts, each with `ahead` bytes of text. The documents are halved by their
@@ -110,10 +125,10 @@ fn gather_parts<R: Threads + Sync, W: Watch + Copy + Send>(
     }
     let low = parts / 2;
     let high = parts - low;
-    let (first, others) = documents.split_at(documents_with(
-        documents,
-        bytes_of(documents) / parts * low,
-    ));
+    let mut own = watch;
+    let bytes = bytes_of(documents, &mut own)?;
+    let at = documents_with(documents, bytes / parts * low, &mut own)?;
+    let (first, others) = documents.split_at(at);
     let front = move || -> Result<Joined, Unanswered>
         requires { IsSync R.row × IsSend W.row }
         ensures joins { IfOk result (λ joined. HaveOwnNames first.entry.now → Joins wanted.entry.now wanted.entry.now.limit first.entry.now joined) }

@@ -1,9 +1,11 @@
 //! What a search takes out of an index, so that names and lines can be matched without the index.
 
 ghost use Rattle.std.specs.Prelude.{◌≡◌, ◌==◌, IfOk, IfErr, IfNone, IfSome, IsFalse, length};
-ghost use Rattle.search.specs.declared.unanswered.Unanswered.TheVariants.{OutOfMemory};
+ghost use Rattle.watch.specs.declared.unanswered.Unanswered.TheVariants.{OutOfMemory};
+ghost use Rattle.watch.specs.CalledOff.{IsCalledOffOnlyIf};
 ghost use Rattle.search.specs.Private.Gathered.{shown_with};
 ghost use Rattle.prepare.specs.Prepared.{pattern_of, request_of};
+ghost use Rattle.query.specs.Query.{formula_of};
 ghost use Rattle.search.specs.Front.{AreFronts};
 ghost use Rattle.search.specs.Private.Parts.{AreFirstFronted, IsTakenUpTo};
 ghost use Rattle.search.specs.Taken.{IsTakenOf};
@@ -11,16 +13,14 @@ ghost use Rattle.search.specs.Taken.{IsTakenOf};
 use crate::gathered::{Wanted, gather};
 use crate::names::named;
 use crate::side_by_side::{Joined, gather_part, gather_side_by_side};
-use crate::unanswered::Unanswered;
-use crate::watch::{NoWatch, Watch};
-use index::{Index, SharedDocument};
-use posting::List;
+use index::{Candidates, Index, SharedDocument};
 use prefixes::Prefixes;
 use prepare::{Prepared, front_of};
 use request::View;
 use std::alloc::{AllocError, Global};
 use std::thread::Threads;
 use views::{Answer, Contents, Shown, ShownContents};
+use watch::{NoWatch, Unanswered, Watch};
 
 /// What a search has taken out of an index: the version, the counts, and the candidates. It does not borrow the
 /// index, which can change or be dropped while names and lines are matched. Names and bodies are shared, so it takes
@@ -53,44 +53,67 @@ pub fn take<'p>(
 ) -> Result<Taken<'p>, AllocError>
     ensures { IfOk result (IsTakenOf index.now (request_of prepared.now)) }
 {
-    let taken = take_up_to(alloc, index, prepared, usize::MAX)?;
+    match take_watched(alloc, index, prepared, &mut NoWatch) {
+        Ok(taken) => Ok(taken),
+        // `CalledOff` would become an `AllocError` too, but to `NoWatch` each answer is wanted.
+        Err(_) => Err(AllocError),
+    }
+}
+
+/// The same as `take`, but `watch` can call the search off. While it is asked, the index is borrowed: a watch that waits holds up
+/// what changes the index.
+///
+/// `CalledOff` is returned only after `watch.wants()` said `false`, and nothing is asked after that. `OutOfMemory` means that memory ran
+/// out, or that a name or a body has too many handles.
+pub fn take_watched<'p, W: Watch>(
+    alloc: Global,
+    index: &Index,
+    prepared: &'p Prepared,
+    watch: &mut W,
+) -> Result<Taken<'p>, Unanswered>
+    ensures taken { IfOk result (IsTakenOf index.now (request_of prepared.now)) }
+    ensures called_off { IfErr result (IsCalledOffOnlyIf (W.has_said_no watch.new)) }
+{
+    let taken = take_up_to(alloc, index, prepared, usize::MAX, watch)?;
     Ok(taken)
 }
 
 /// The same, but of the documents only the first ones, in the order of their names, if there are `most` or more.
-pub(crate) fn take_up_to<'p>(
+pub(crate) fn take_up_to<'p, W: Watch>(
     alloc: Global,
     index: &Index,
     prepared: &'p Prepared,
     most: usize,
-) -> Result<Taken<'p>, AllocError>
-    ensures { IfOk result (IsTakenUpTo most index.now (request_of prepared.now)) }
+    watch: &mut W,
+) -> Result<Taken<'p>, Unanswered>
+    ensures taken { IfOk result (IsTakenUpTo most index.now (request_of prepared.now)) }
+    ensures called_off { IfErr result (IsCalledOffOnlyIf (W.has_said_no watch.new)) }
 {
-    let numbers = index.candidates(alloc, &prepared.query)?;
-    let candidates = fronted(alloc, index, prepared, &numbers, most)?;
+    let found = fronted(alloc, index, prepared, most, watch)?;
     Ok(Taken {
         prepared,
         version: index.version(),
         documents: index.documents(),
-        count: numbers.len() as u32,
-        candidates,
+        count: found.count,
+        candidates: found.documents,
     })
 }
 
-/// Those of the documents with these numbers whose names begin as each name begins that is asked for, in the order of their
-/// names: all, or the first ones, if there are `most` or more.
-fn fronted(
+/// How many candidates there are, and those of them whose names begin as each name begins that is asked for, in the order of
+/// their names: all, or the first ones, if there are `most` or more.
+fn fronted<W: Watch>(
     alloc: Global,
     index: &Index,
     prepared: &Prepared,
-    numbers: &List,
     most: usize,
-) -> Result<Vec<SharedDocument>, AllocError>
-    ensures { IfOk result (λ shared. AreFirstFronted most index.now (pattern_of prepared.now) numbers.now.members shared.items) }
+    watch: &mut W,
+) -> Result<Candidates, Unanswered>
+    ensures fronted { IfOk result (AreFirstFronted most index.now (pattern_of prepared.now) (formula_of prepared.now.query)) }
+    ensures called_off { IfErr result (IsCalledOffOnlyIf (W.has_said_no watch.new)) }
 {
     match front(alloc, prepared)? {
-        Some(front) => index.chosen_documents_under(alloc, numbers, &front, most),
-        None => index.chosen_documents_under(alloc, numbers, &prepared.under, most),
+        Some(front) => index.candidates(alloc, &prepared.query, &front, most, watch),
+        None => index.candidates(alloc, &prepared.query, &prepared.under, most, watch),
     }
 }
 
@@ -118,7 +141,7 @@ impl Taken<'_> {
     ghost use Rattle.std.specs.Prelude.{IfOk, IfErr};
     ghost use Rattle.index.specs.State.{State};
     ghost use Rattle.prepare.specs.Request.{Request};
-    ghost use Rattle.search.specs.CalledOff.{IsCalledOffOnlyIf};
+    ghost use Rattle.watch.specs.CalledOff.{IsCalledOffOnlyIf};
     ghost use Rattle.search.specs.Shown.{IsShownOf};
     ghost use Rattle.search.specs.Scan.{IsAnswerOf};
     ghost use Rattle.search.specs.Taken.{IsTakenOf};

@@ -7,11 +7,9 @@ ghost use Rattle.ere.specs.Limits.{IsWithinLimits};
 ghost use Rattle.engine.specs.Patterns.{IsCompiledFrom, IsCompiledForLines};
 ghost use Rattle.prepare.specs.Pattern.{Passes};
 ghost use Rattle.prepare.specs.Tests.{test_of};
-ghost use Rattle.search.specs.CalledOff.{IsCalledOffOnlyIf};
+ghost use Rattle.watch.specs.CalledOff.{IsCalledOffOnlyIf};
 ghost use Rattle.search.specs.Private.Ways.{Finds, found_by};
 
-use crate::unanswered::Unanswered;
-use crate::watch::Watch;
 use engine::{Compiled, Finder};
 use ere::Ere;
 use lines::MAX_LINE;
@@ -20,6 +18,7 @@ use prepare::Test;
 use simulation::Simulation;
 use std::alloc::{AllocError, Global};
 use views::FoundBy;
+use watch::{Unanswered, Watch};
 
 /// How the lines that contain a match of a tree are found. All ways find the same lines.
 #[derive(Drop)]

@@ -12,7 +12,7 @@ use crate::naming::Naming;
 use crate::reader::{Reader, take, take_first};
 use prepare::Prepared;
 use published::Told;
-use search::{First, Taken, Unanswered};
+use search::{First, Taken, Unanswered, Watch};
 use std::alloc::Global;
 use std::marker::PhantomData;
 use views::Shown;
@@ -43,20 +43,22 @@ impl<J: Naming> Seen<J> {
 
 /// Has a reader, with which a search takes its documents.
 pub(crate) trait Hold<J: Naming> {
-    /// Takes the first candidates of a search.
-    fn take_first<'p>(
+    /// Takes the first candidates of a search. `watch` must not look at the turn of the search: what takes them may be locked.
+    fn take_first<'p, W: Watch + Copy>(
         &mut self,
         alloc: Global,
         prepared: &'p Prepared,
         most: usize,
+        watch: W,
     ) -> Result<(First<'p>, Seen<J>), Unanswered>
         ensures { IfOk result (λ taken. IsFirstOf (state_of taken.1.told.commands) (request_of prepared.now) taken.0) };
 
-    /// Takes the candidates of a search.
-    fn take<'p>(
+    /// Takes the candidates of a search, with such a `watch` too.
+    fn take<'p, W: Watch + Copy>(
         &mut self,
         alloc: Global,
         prepared: &'p Prepared,
+        watch: W,
     ) -> Result<(Taken<'p>, Seen<J>), Unanswered>
         ensures { IfOk result (λ taken. IsTakenOf (state_of taken.1.told.commands) (request_of prepared.now) taken.0) };
 
@@ -66,22 +68,24 @@ pub(crate) trait Hold<J: Naming> {
 }
 
 impl<J: Naming> Hold<J> for Reader<J> {
-    fn take_first<'p>(
+    fn take_first<'p, W: Watch + Copy>(
         &mut self,
         alloc: Global,
         prepared: &'p Prepared,
         most: usize,
+        watch: W,
     ) -> Result<(First<'p>, Seen<J>), Unanswered> {
-        let first = take_first(alloc, &mut self.reading, prepared, most)?;
+        let first = take_first(alloc, &mut self.reading, prepared, most, watch)?;
         Ok((first, self.seen()))
     }
 
-    fn take<'p>(
+    fn take<'p, W: Watch + Copy>(
         &mut self,
         alloc: Global,
         prepared: &'p Prepared,
+        watch: W,
     ) -> Result<(Taken<'p>, Seen<J>), Unanswered> {
-        let taken = take(alloc, &mut self.reading, prepared)?;
+        let taken = take(alloc, &mut self.reading, prepared, watch)?;
         Ok((taken, self.seen()))
     }
 

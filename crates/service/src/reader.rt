@@ -14,14 +14,16 @@ use crate::hold::Hold;
 use crate::naming::Naming;
 use crate::tasks::{Request, Task};
 use crate::wish::{Look, Wish};
+use index::Index;
 use prepare::Prepared;
 use published::Reading;
-use search::{First, Taken, Unanswered, Watch};
+use search::{First, Taken, Unanswered, Watch, take_watched};
 use std::alloc::Global;
 use std::marker::PhantomData;
 use std::thread::Threads;
 use std::time::Clock;
 use views::Shown;
+use watch::ask;
 
 /// What answers searches for a service. It can be in another thread.
 #[derive(Drop)]
@@ -65,7 +67,13 @@ impl<J: Naming> Reader<J> {
 }
 
 /// Answers the search of this number for what has a reader of its service.
-pub(crate) fn answer_by<J: Naming, H: Hold<J>, R: Threads + Sync, G: Gate, W: Watch + Copy + Send>(
+pub(crate) fn answer_by<
+    J: Naming,
+    H: Hold<J>,
+    R: Clock + Threads + Sync,
+    G: Gate,
+    W: Watch + Copy + Send,
+>(
     rt: &R,
     alloc: Global,
     hold: &mut H,
@@ -85,6 +93,7 @@ pub(crate) fn answer_by<J: Naming, H: Hold<J>, R: Threads + Sync, G: Gate, W: Wa
         alloc,
         hold,
         &request.prepared,
+        wish,
         gate,
         number,
         parts,
@@ -124,29 +133,30 @@ fn first_of(limit: u32) -> usize {
 
 /// Searches as reader 0: takes and matches. While names and lines are matched, both copies of the index can change. If the
 /// search has a limit, the first candidates are taken and matched before all others. If they are not enough, all are taken anew,
-/// at the version that is published then.
+/// at the version that is published then. Each of these has a copy of `watch`.
 ///
 /// `CalledOff` means that the search was given up. `OutOfMemory` means that memory ran out, that a name or a body has
 /// too many handles, or that the service was closed.
-pub(crate) fn search<W: Watch>(
+pub(crate) fn search<W: Watch + Copy>(
     alloc: Global,
     reading: &mut Reading,
     prepared: &Prepared,
-    watch: &mut W,
+    watch: W,
 ) -> Result<Shown, Unanswered>
     ensures opening { reading.new.opening ≡ reading.old.opening }
     ensures seen { IsPrefix reading.old.commands reading.new.commands }
     ensures answer { IfOk result (IsShownOf (state_of reading.new.commands) (request_of prepared.now)) }
 {
+    let mut own = watch;
     if let Some(limit) = prepared.limit {
-        ask(watch)?;
-        let first = take_first(alloc, reading, prepared, first_of(limit))?;
-        if let Some(shown) = show_first(alloc, first, watch)? {
+        ask(&mut own)?;
+        let first = take_first(alloc, reading, prepared, first_of(limit), watch)?;
+        if let Some(shown) = show_first(alloc, first, &mut own)? {
             return Ok(shown);
         }
     }
-    ask(watch)?;
-    take(alloc, reading, prepared)?.show(alloc, watch)
+    ask(&mut own)?;
+    take(alloc, reading, prepared, watch)?.show(alloc, &mut own)
 }
 
 /// What is shown of what was taken first, if that is enough.
@@ -163,12 +173,15 @@ fn show_first<W: Watch>(
     }
 }
 
-/// The same for what has a reader, but a large search may go on in so many threads, and some text of the answer is formed.
-fn search_by<J: Naming, H: Hold<J>, R: Threads + Sync, G: Gate, W: Watch + Copy + Send>(
+/// The same for what has a reader, but a large search may go on in so many threads, and some text of the answer is formed. While
+/// candidates are taken, only `wish` is looked at: the search could not wait there for its next turn, since the version that it reads is
+/// kept for it.
+fn search_by<J: Naming, H: Hold<J>, R: Clock + Threads + Sync, G: Gate, W: Watch + Copy + Send>(
     rt: &R,
     alloc: Global,
     hold: &mut H,
     prepared: &Prepared,
+    wish: &Wish,
     gate: &G,
     number: u32,
     parts: usize,
@@ -178,16 +191,17 @@ fn search_by<J: Naming, H: Hold<J>, R: Threads + Sync, G: Gate, W: Watch + Copy 
     ensures { IfOk result (λ found. IsShownOf (state_of found.seen.commands) (request_of prepared.now) found.answer) }
 {
     let mut own = watch;
+    let look = Look::at(rt, wish);
     if let Some(limit) = prepared.limit {
         ask(&mut own)?;
-        let (first, seen) = hold.take_first(alloc, prepared, first_of(limit))?;
+        let (first, seen) = hold.take_first(alloc, prepared, first_of(limit), look)?;
         gate.turn(number, Point::Matching);
         if let Some(shown) = show_first_by(rt, alloc, first, parts, ahead, watch)? {
             return Ok(seen.found(hold.timed(shown)));
         }
     }
     ask(&mut own)?;
-    let (taken, seen) = hold.take(alloc, prepared)?;
+    let (taken, seen) = hold.take(alloc, prepared, look)?;
     gate.turn(number, Point::Matching);
     let shown = taken.show_by(rt, alloc, parts, ahead, watch)?;
     Ok(seen.found(hold.timed(shown)))
@@ -213,45 +227,66 @@ fn show_first_by<R: Threads + Sync, W: Watch + Copy + Send>(
     }
 }
 
-/// Asks whether a search is still wanted. An `Err` is `CalledOff`: it is not.
-fn ask<W: Watch>(watch: &mut W) -> Result<(), Unanswered> {
-    if watch.wants() {
-        Ok(())
-    } else {
-        Err(Unanswered::CalledOff)
-    }
-}
-
-/// Takes the first candidates of a search.
-pub(crate) fn take_first<'p>(
+/// Takes the first candidates of a search. An `Err` is `OutOfMemory` if the service was closed too.
+pub(crate) fn take_first<'p, W: Watch + Copy>(
     alloc: Global,
     reading: &mut Reading,
     prepared: &'p Prepared,
     most: usize,
+    watch: W,
 ) -> Result<First<'p>, Unanswered>
     ensures opening { reading.new.opening ≡ reading.old.opening }
     ensures seen { IsPrefix reading.old.commands reading.new.commands }
     ensures first { IfOk result (IsFirstOf (state_of reading.new.commands) (request_of prepared.now)) }
 {
-    let Some(Ok(first)) = reading.look(|index| search::take_first(alloc, index, prepared, most))
-    else {
-        return Err(Unanswered::OutOfMemory);
-    };
-    Ok(first)
+    match reading.look(|index| first_of_index(alloc, index, prepared, most, watch)) {
+        Some(Ok(first)) => Ok(first),
+        Some(Err(why)) => Err(why),
+        None => Err(Unanswered::OutOfMemory),
+    }
 }
 
-/// Takes the candidates of a search.
-pub(crate) fn take<'p>(
+/// Takes the first candidates of a search out of an index.
+fn first_of_index<'p, W: Watch + Copy>(
+    alloc: Global,
+    index: &Index,
+    prepared: &'p Prepared,
+    most: usize,
+    watch: W,
+) -> Result<First<'p>, Unanswered>
+    ensures { IfOk result (IsFirstOf index.now (request_of prepared.now)) }
+{
+    let mut own = watch;
+    search::take_first(alloc, index, prepared, most, &mut own)
+}
+
+/// Takes the candidates of a search. An `Err` is `OutOfMemory` if the service was closed too.
+pub(crate) fn take<'p, W: Watch + Copy>(
     alloc: Global,
     reading: &mut Reading,
     prepared: &'p Prepared,
+    watch: W,
 ) -> Result<Taken<'p>, Unanswered>
     ensures opening { reading.new.opening ≡ reading.old.opening }
     ensures seen { IsPrefix reading.old.commands reading.new.commands }
     ensures taken { IfOk result (IsTakenOf (state_of reading.new.commands) (request_of prepared.now)) }
 {
-    let Some(Ok(taken)) = reading.look(|index| search::take(alloc, index, prepared)) else {
-        return Err(Unanswered::OutOfMemory);
-    };
-    Ok(taken)
+    match reading.look(|index| taken_of_index(alloc, index, prepared, watch)) {
+        Some(Ok(taken)) => Ok(taken),
+        Some(Err(why)) => Err(why),
+        None => Err(Unanswered::OutOfMemory),
+    }
+}
+
+/// Takes the candidates of a search out of an index.
+fn taken_of_index<'p, W: Watch + Copy>(
+    alloc: Global,
+    index: &Index,
+    prepared: &'p Prepared,
+    watch: W,
+) -> Result<Taken<'p>, Unanswered>
+    ensures { IfOk result (IsTakenOf index.now (request_of prepared.now)) }
+{
+    let mut own = watch;
+    take_watched(alloc, index, prepared, &mut own)
 }

@@ -61,34 +61,36 @@ impl<J: Naming> Held<J> {
     }
 
     /// Takes the first candidates of a search.
-    fn take_first<'p>(
+    fn take_first<'p, W: Watch + Copy>(
         &mut self,
         alloc: Global,
         prepared: &'p Prepared,
         most: usize,
+        watch: W,
     ) -> Result<(First<'p>, Seen<J>), Unanswered>
         ensures { IfOk result (λ taken. IsFirstOf (state_of taken.1.told.commands) (request_of prepared.now) taken.0) }
     {
         let Some(reader) = &mut self.reader else {
             return Err(Unanswered::OutOfMemory);
         };
-        let (first, seen) = reader.take_first(alloc, prepared, most)?;
+        let (first, seen) = reader.take_first(alloc, prepared, most, watch)?;
         self.note(&seen);
         Ok((first, seen))
     }
 
     /// Takes the candidates of a search.
-    fn take<'p>(
+    fn take<'p, W: Watch + Copy>(
         &mut self,
         alloc: Global,
         prepared: &'p Prepared,
+        watch: W,
     ) -> Result<(Taken<'p>, Seen<J>), Unanswered>
         ensures { IfOk result (λ taken. IsTakenOf (state_of taken.1.told.commands) (request_of prepared.now) taken.0) }
     {
         let Some(reader) = &mut self.reader else {
             return Err(Unanswered::OutOfMemory);
         };
-        let (taken, seen) = reader.take(alloc, prepared)?;
+        let (taken, seen) = reader.take(alloc, prepared, watch)?;
         self.note(&seen);
         Ok((taken, seen))
     }
@@ -180,24 +182,26 @@ pub(crate) struct Seated<'a, J: Naming, T, R: Wait + Clock> {
 }
 
 impl<J: Naming, T: Drop, R: Wait + Clock> Hold<J> for Seated<'_, J, T, R> {
-    fn take_first<'p>(
+    fn take_first<'p, W: Watch + Copy>(
         &mut self,
         alloc: Global,
         prepared: &'p Prepared,
         most: usize,
+        watch: W,
     ) -> Result<(First<'p>, Seen<J>), Unanswered> {
         self.seat
             .held
             .lock(self.rt)
-            .take_first(alloc, prepared, most)
+            .take_first(alloc, prepared, most, watch)
     }
 
-    fn take<'p>(
+    fn take<'p, W: Watch + Copy>(
         &mut self,
         alloc: Global,
         prepared: &'p Prepared,
+        watch: W,
     ) -> Result<(Taken<'p>, Seen<J>), Unanswered> {
-        self.seat.held.lock(self.rt).take(alloc, prepared)
+        self.seat.held.lock(self.rt).take(alloc, prepared, watch)
     }
 
     fn timed(&self, answer: Shown) -> Shown {

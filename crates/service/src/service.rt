@@ -629,9 +629,9 @@ fn answer_last<R: Wait + Clock>(
 {
     let begun = Instant::now(rt).ok();
     reading.learn(told);
-    let mut look = Look::at(rt, wish);
+    let look = Look::at(rt, wish);
     for _ in rt.forever() {
-        match search(alloc, reading, prepared, &mut look) {
+        match search(alloc, reading, prepared, look) {
             Ok(answer) => {
                 if answer.version() == told.version() {
                     let worked = begun.and_then(|begun| begun.elapsed(rt).ok());

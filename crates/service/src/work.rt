@@ -20,7 +20,8 @@ use std::time::Clock;
 impl<J: Naming + Send + Sync, T: Send + Drop> Line<J, T> {
     /// Answers a search in the thread of this post, as `Reader::answer` does. Where others wait, it works for some 10
     /// milliseconds at a time, or one where nobody has begun one of them, up to its next look whether it is wanted, and then waits
-    /// behind them. What it has at its end is to be given back, once its answer was sent.
+    /// behind them; while its candidates are taken it does not wait, since it keeps the version that it reads. What it has at its end is
+    /// to be given back, once its answer was sent.
     pub fn answer<R: Wait + Clock + Threads + Sync, G: Gate>(
         &self,
         rt: &R,

@@ -9,8 +9,8 @@ ghost use Rattle.simulation.specs.Private.Reading.{AreClear, Ends, HasRoom, HasW
 use crate::cells::word_if;
 use crate::node::Node;
 use crate::step::step;
-use crate::watch::{CalledOff, Pace, Watch};
 use ere::is_word_byte;
+use watch::{CalledOff, Pace, Watch};
 
 /// Which words of a node are looked for.
 #[derive(Clone, Copy, Debug, PartialEq, Eq)]

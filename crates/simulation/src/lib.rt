@@ -12,7 +12,6 @@ mod sequence;
 mod simulation;
 mod step;
 mod turns;
-mod watch;
 
 pub use simulation::Simulation;
 pub use watch::{CalledOff, Watch};

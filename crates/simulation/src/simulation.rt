@@ -8,9 +8,13 @@ use crate::ends::{WordRange, has_word, last_end};
 use crate::gaps::first_gap;
 use crate::node::{Gaps, Node, begins_at_start, count, is_gap};
 use crate::pack::pack;
-use crate::watch::{CalledOff, Pace, Watch};
 use ere::Ere;
 use std::alloc::{AllocError, Global};
+use watch::{CalledOff, Pace, Watch};
+
+/// How many steps lie between two looks at whether the answer is wanted at most, where a byte does not take more. They take some tenths
+/// of a millisecond. No answer depends on it.
+const STEPS: usize = 32_768;
 
 /// What is needed to look for matches of one tree in lines of any length.
 ///
@@ -49,14 +53,14 @@ impl Simulation {
     {
         let packed = pack(alloc, tree, 1)?;
         let at_start = begins_at_start(&packed.node);
-        let pace = Pace::of(count(&packed.node).saturating_add(packed.size));
+        let steps = count(&packed.node).saturating_add(packed.size);
         Ok(Simulation {
             node: packed.node,
             gaps: packed.gaps,
             at_start,
             entered: vec![in alloc; 0; packed.size]?,
             cells: vec![in alloc; 0; packed.size]?,
-            pace,
+            pace: Pace::each(STEPS.checked_div(steps).unwrap_or(1)),
         })
     }
 

@@ -1,12 +1,13 @@
 -- Which rows are legal: which entry each item of a run may have, whatever the readers and their timing.
 use Rattle.std.specs.Prelude.{◌≡◌, ◌≢◌, ℕ, ◌+◌, ◌-◌, ◌^◌, ◌<◌, ◌≤◌, ◌⊎◌, List, ◌∷◌, ◌++◌, length, map, take, Option, Some, None, option_map, IfSome}
 use Rattle.std.specs.Prelude.{Contains, if◌then◌else◌, ◌==◌, Bool, false, true, unwrap_or}
+use Rattle.std.specs.FinMap.{len}
 use Rattle.index.specs.declared.error.NameError.{NameError}
 use Rattle.index.specs.declared.error.NameError.TheVariants as name_error
 use Rattle.index.specs.declared.error.BodyErrorKind.{BodyErrorKind}
 use Rattle.index.specs.declared.command.Command.{Command}
 use Rattle.index.specs.declared.lengths.Lengths.{Lengths}
-use Rattle.index.specs.Documents.{Document, is_taken, has_under}
+use Rattle.index.specs.Documents.{Documents, is_taken, has_under}
 use Rattle.index.specs.State.{State, state_of, body_bytes}
 use Rattle.index.specs.Text.{IsNameOf, IsNameFault, IsBodyOf, IsBodyFault}
 use Rattle.prepare.specs.Request.{Request}
@@ -140,14 +141,14 @@ pub record IsUnknown (number searches line : ℕ) (entry : Entry) : Type 0 where
   pub refused : entry ≡ Refused line reason.NoSuchSearch
 
 -- the documents after the commands of this version
-abbrev pub documents_at : ℕ → List Command → List Document
+abbrev pub documents_at : ℕ → List Command → Documents
 documents_at version commands = (state_of (take version commands)).documents
 
 -- The entry of a status: the version that was published last, how many documents it has and how many bytes they have, how
 -- many commands are accepted and how many can be at most, and how many searches are open.
 abbrev pub status_entry : ℕ → ℕ → List Command → ℕ → ℕ → Entry
 status_entry line version commands most waiting =
-    Status line version (length (documents_at version commands)) (body_bytes (documents_at version commands)) (length commands) most waiting
+    Status line version (len (documents_at version commands)) (body_bytes (documents_at version commands)) (length commands) most waiting
 
 -- The searches that are open at a status are among those before it, and without readers there are none. How many they are
 -- is said by the steps, as they depend on when searches get their entries.

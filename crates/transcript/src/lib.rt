@@ -7,5 +7,8 @@ mod texts;
 mod transcript;
 
 pub use entry::{Entry, Reason, SearchReason, has_hit, is_refusal};
-pub use output::{WriteError, flush_whole, write_entry, write_transcript, write_whole};
+pub use output::{
+    WriteError, flush_whole, write_entry, write_others, write_transcript, write_whole,
+};
+pub use texts::append_head;
 pub use transcript::{Transcript, status};

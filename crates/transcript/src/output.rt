@@ -6,6 +6,7 @@ ghost use Rattle.std.specs.IoError.{error_kind};
 ghost use denote.Param.Send.{IsSync};
 ghost use Rattle.views.specs.Parts.{text_of_parts};
 ghost use Rattle.views.specs.Text.{text_of_hits};
+ghost use Rattle.transcript.specs.Heads.{lines_of_entry};
 ghost use Rattle.transcript.specs.Transcript.{text_of_entry, text_of_transcript};
 ghost use Rattle.transcript.specs.Written.{AppendsFront, AppendsAllBut};
 
@@ -90,9 +91,28 @@ pub fn write_entry<R: Threads + Sync, W: Write>(
     ensures err { OnErr result (AppendsFront (W.contents out.old) (W.contents out.new) (text.old.items ++ text_of_entry stats entry.now)) }
 {
     match append_head(entry, stats, text) {
-        Ok(()) => {}
-        Err(_) => return Err(WriteError::OutOfMemory),
+        Ok(()) => write_others(rt, alloc, threads, entry, text, out),
+        Err(_) => Err(WriteError::OutOfMemory),
     }
+}
+
+/// Writes the lines of an entry after its first, behind that in `text`, which is not written yet, as `write_entry` does. Only an
+/// answer has any: the text of each other entry is its first line, which `append_head` forms.
+///
+/// `Failed` means that the writer failed, `Closed` that nobody reads any more what is written, `Stopped` that the
+/// writer took no byte, and `OutOfMemory` that memory ran out for text. After an `Err`, what was written is a beginning
+/// of both texts, and `text` has any bytes.
+pub fn write_others<R: Threads + Sync, W: Write>(
+    rt: &R,
+    alloc: Global,
+    threads: usize,
+    entry: &Entry,
+    text: &mut Vec<u8>,
+    out: &mut W,
+) -> Result<(), WriteError>
+    ensures ok { OnOk result (AppendsAllBut (W.contents out.old) (W.contents out.new) (text.old.items ++ lines_of_entry entry.now) text.new.items) }
+    ensures err { OnErr result (AppendsFront (W.contents out.old) (W.contents out.new) (text.old.items ++ lines_of_entry entry.now)) }
+{
     match entry {
         Entry::Found { answer, .. } => write_parts(rt, alloc, threads, answer.parts(), text, out),
         _ => write_part(out, text),

@@ -218,7 +218,7 @@ fn append_status(out: &mut Vec<u8>, shown: Shown) -> Result<(), AllocError>
 
 /// Appends the text of an entry, for an answer only that of its first line. With `stats` that also shows its number of
 /// candidates and of documents. An `Err` means that memory ran out; it can leave a beginning of the text in `out`.
-pub(crate) fn append_head(entry: &Entry, stats: bool, out: &mut Vec<u8>) -> Result<(), AllocError>
+pub fn append_head(entry: &Entry, stats: bool, out: &mut Vec<u8>) -> Result<(), AllocError>
     ensures { OnOk result (out.new.items ≡ out.old.items ++ head_of_entry stats entry.now) }
 {
     match entry {

@@ -7,20 +7,24 @@ use Rattle.script.specs.Items.{Item, Numbered, numbered}
 use Rattle.input.specs.declared.owned.OwnedItem.{OwnedItem}
 use Rattle.input.specs.declared.owned.OwnedItem.TheVariants as owned
 use Rattle.input.specs.Owned.{ShowsOwned}
+use Rattle.std.specs.Prelude.{slice_get}
 use Rattle.transcript.specs.declared.entry.Entry.{Entry}
+use Rattle.transcript.specs.declared.entry.Entry.TheVariants.{SearchRefused}
+use Rattle.transcript.specs.declared.entry.SearchReason.TheVariants.{OutOfMemory}
 use Rattle.steps.specs.Rows.{Row, entries_of, list_of, is_sync, searches_of, count_searches, failures_in}
 use Rattle.steps.specs.LegalRows.{IsFailedTimes}
 use Rattle.steps.specs.Entries.{failures_of}
-use Rattle.steps.specs.Steps.{Given, IsStep, Runs, goes_on, MayTake}
+use Rattle.steps.specs.Steps.{Given, IsStep, OpenSearch, Runs, goes_on, MayTake}
 use Rattle.steps.specs.Steps as steps
 use Rattle.steps.specs.StepRows.{AreNext, AreRows, IsOfSearch, searches_in}
 use Rattle.steps.specs.StepRows as rows_of
 use Rattle.steps.proofs.RowLemmas.{count_searches-push}
 use Rattle.steps.proofs.RunLemmas.{next_items, next_entries}
 use Rattle.steps.proofs.StepLemmas.{next_rows}
-use Rattle.service.specs.Service.{ServiceState, IsCounted, Steps, Takes, Gives, SetsAside, run_of, versions_in}
+use Rattle.service.specs.Service.{ServiceState, IsCounted, Steps, Takes, Gives, SetsAside, run_of, versions_in, without}
 use Rattle.service.specs.Service as service
 use Rattle.service.proofs.ServiceLemmas.{aside_fits, gives_step}
+use Rattle.service.proofs.TurnsLemmas.{aside_none}
 use Rattle.tsearch.specs.declared.sink.News.{News}
 use Rattle.tsearch.specs.declared.sink.News.TheVariants as news
 use Rattle.tsearch.specs.Private.Running.{Start, Now, now, Told, entered, opened, passed, answered, entries_by, first_run, IsRunning, IsStopped}
@@ -61,6 +65,24 @@ gives_no_failure : (old : ServiceState) (entry : Entry) (new : ServiceState) →
 gives_no_failure old entry new (service.answered place wanted reader turn answer turns is_open can gives is after) = ap (λ e. failures_of (e ∷ [])) is
 gives_no_failure old entry new (service.not_answered place wanted turns is_open still is after) = ap (λ e. failures_of (e ∷ [])) is
 gives_no_failure old entry new (service.too_slow place wanted turns timed is_open still is after) = ap (λ e. failures_of (e ∷ [])) is
+
+-- An open search gets the entry of a search.
+pub gives_one : (old : ServiceState) (entry : Entry) (new : ServiceState) → Gives old entry new → searches_in entry ≡ 1
+gives_one old entry new (service.answered place wanted reader turn answer turns is_open can gives is after) = ap searches_in is
+gives_one old entry new (service.not_answered place wanted turns is_open still is after) = ap searches_in is
+gives_one old entry new (service.too_slow place wanted turns timed is_open still is after) = ap searches_in is
+
+-- It can be refused for want of memory.
+pub gives_refusal : (old : ServiceState) → old.awaited ≢ [] → (entry : Entry) × (new : ServiceState) × Gives old entry new
+gives_refusal old some = by old.awaited refl
+  where
+    by : (awaited : List OpenSearch) → old.awaited ≡ awaited → (entry : Entry) × (new : ServiceState) × Gives old entry new
+    by [] none = absurd (some none)
+    by (search ∷ others) is = (
+      SearchRefused search.number OutOfMemory,
+      without 0 old.turns old,
+      service.not_answered 0 search old.turns (ap (λ l. slice_get l 0) is) (aside_none old).still refl refl,
+    )
 
 one_of_one : (entry : Option Entry) (e : Entry) → e ∷ [] ≡ list_of entry → entry ≡ Some e
 one_of_one None e is = cc

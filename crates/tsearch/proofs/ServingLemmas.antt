@@ -133,10 +133,10 @@ module _ {W O : Type 0} (Does : W → O → News → W → O → Type 0) (Holds 
     cut_event : (Fails : W → O → News → W → O → Type 0) (service : ServiceState) (sink : W) (out : O)
         → FailsAtEvent Fails at.service at.sink at.out service sink out → IsCutOff Does Fails Holds readers input start at.failed sink out
     cut_event Fails service sink out (serving.at_once same_sink same_out) = rw (same_sink, same_out) (cut_here Fails)
-    cut_event Fails service sink out (serving.in_part front) = record {
+    cut_event Fails service sink out (serving.in_part {last} front) = record {
       taken = is_serving.taken;
       untaken = inbox.held;
-      stopped = λ items shown. answers_front Does Holds readers start items at (is_serving.running items shown) Fails service sink out front;
+      stopped = λ items shown. answers_front Does Holds readers start items at (is_serving.running items shown) Fails last sink out front;
       read = subst (IsReadOf input) is_serving.came is_serving.read;
     }
 

@@ -2,3 +2,4 @@
 pub mod Sinks
 pub mod Running
 pub mod Serving
+pub mod Ahead

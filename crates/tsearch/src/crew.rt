@@ -1,6 +1,6 @@
 //! The threads of a run or a session, and the channels between them and it.
 
-use crossbeam_channel::{Receiver, Sender, bounded};
+use crossbeam_channel::{Receiver, RecvTimeoutError, Sender, bounded};
 use input::{Feed, Next};
 use service::{Begun, Done, Gate, Line, Post, Reader, Stops, Task};
 use std::alloc::{AllocError, Global};
@@ -8,7 +8,7 @@ use std::io::BufRead;
 use std::marker::PhantomData;
 use std::sync::{Arc, Wait};
 use std::thread::{self, Scope, Threads};
-use std::time::Clock;
+use std::time::{Clock, Duration};
 
 /// How many events can wait for a session. A thread that has one more waits, so few answers are in memory at a time.
 const EVENTS: usize = 8;
@@ -477,6 +477,25 @@ impl<J: service::Naming, K: input::Naming, I: BufRead + Drop> Crew<J, K, I> {
         match &self.workers {
             Some(workers) => workers.events.recv(rt).ok(),
             None => None,
+        }
+    }
+
+    /// Waits for the next event from a thread, for about this long if there is a limit. `Timeout` means that none came in this time,
+    /// or that the clock cannot be read, and `Disconnected` that the threads have ended, which they do not while the crew lasts.
+    pub(crate) fn next_within<R: Wait + Clock>(
+        &self,
+        rt: &R,
+        limit: Option<Duration>,
+    ) -> Result<Event<J, K>, RecvTimeoutError> {
+        let Some(workers) = &self.workers else {
+            return Err(RecvTimeoutError::Disconnected);
+        };
+        match limit {
+            Some(limit) => workers.events.recv_timeout(rt, limit),
+            None => match workers.events.recv(rt) {
+                Ok(event) => Ok(event),
+                Err(_) => Err(RecvTimeoutError::Disconnected),
+            },
         }
     }
 

@@ -2,20 +2,21 @@
 
 ghost use Rattle.std.specs.Prelude.{◌≡◌, ◌≢◌, ℕ, ◌+◌, ◌<◌, ◌≤◌, ◌^◌, ◌⊎◌, true, List, [], ◌∷◌, ◌++◌, None, IfOk, OnOk, OnErr};
 ghost use Rattle.input.specs.Read.{EndsBy, IsReadOf, inbox_state};
-ghost use Rattle.service.specs.Service.{SetsAside, first_service};
+ghost use Rattle.service.specs.Service.{ServiceState, SetsAside, first_service};
 ghost use Rattle.tsearch.specs.Private.Running.{Start, start_at, now, Answers, AnswersFront, TakesOne, FailsAtOne};
 ghost use Rattle.tsearch.specs.Private.Serving.{IsServing, IsCutOff, IsDone, IsAdvanced, MayTakeNow, TakesEvent, FailsAtEvent};
 
 use crate::crew::{Crew, Event};
 use crate::error::{LiveError, of_inbox, of_reading};
 use crate::sink::{News, Sink};
+use crossbeam_channel::RecvTimeoutError;
 use input::{Inbox, ReadItem};
 use service::{Done, Reply, Service, Source, Task};
 use std::alloc::Global;
 use std::io::BufRead;
 use std::sync::Wait;
 use std::thread::Threads;
-use std::time::Clock;
+use std::time::{Clock, Duration};
 
 /// How many searches are open at most. No further item is taken until one of them is answered.
 const MAX_OPEN: usize = 1024;
@@ -136,11 +137,12 @@ fn may_take(readers: u32, is_alone: bool, searches: usize) -> bool
     searches == 0 || (readers > 0 && !is_alone && searches < MAX_OPEN)
 }
 
-/// Waits for the next event. As long as none is there and a thread reads, the service catches up, piece by piece.
-fn next_event<J: service::Naming, K: input::Naming, R: Wait, I: BufRead + Drop>(
+/// An event that is there already. As long as none is and a thread reads, the service catches up, piece by piece; `None` means that
+/// it has nothing to catch up with.
+fn ready_event<J: service::Naming, K: input::Naming, R: Wait, I: BufRead + Drop>(
     plan: &Plan<'_, R>,
     service: &mut Service<J>,
-    crew: &mut Crew<J, K, I>,
+    crew: &Crew<J, K, I>,
 ) -> Option<Event<J, K>>
     ensures { service.new ≡ service.old }
 {
@@ -149,10 +151,45 @@ fn next_event<J: service::Naming, K: input::Naming, R: Wait, I: BufRead + Drop>(
             return Some(event);
         }
         if crew.reads_here() || !service.catch_up(plan.rt) {
-            return crew.next(plan.rt);
+            return None;
         }
     }
     unreachable!()
+}
+
+/// Waits for the next event.
+fn next_event<J: service::Naming, K: input::Naming, R: Wait, I: BufRead + Drop>(
+    plan: &Plan<'_, R>,
+    service: &mut Service<J>,
+    crew: &mut Crew<J, K, I>,
+) -> Option<Event<J, K>>
+    ensures { service.new ≡ service.old }
+{
+    match ready_event(plan, service, crew) {
+        Some(event) => Some(event),
+        None => crew.next(plan.rt),
+    }
+}
+
+/// Waits for the next answer after the end of the reading, for about this long if there is a limit. `Timeout` means that none came
+/// in this time, and `Disconnected` that none comes, which never happens.
+fn next_answer<J: service::Naming, K: input::Naming, R: Wait + Clock, I: BufRead + Drop>(
+    plan: &Plan<'_, R>,
+    service: &mut Service<J>,
+    crew: &Crew<J, K, I>,
+    limit: Option<Duration>,
+) -> Result<Done<J>, RecvTimeoutError>
+    ensures { service.new ≡ service.old }
+{
+    let next = match ready_event(plan, service, crew) {
+        Some(event) => Ok(event),
+        None => crew.next_within(plan.rt, limit),
+    };
+    match next {
+        Ok(Event::Answer(done)) => Ok(done),
+        Ok(Event::Read(_)) => Err(RecvTimeoutError::Disconnected),
+        Err(error) => Err(error),
+    }
 }
 
 /// Waits for the next event, and takes it. Returns `true`.
@@ -175,6 +212,10 @@ fn take_event<
         × TakesEvent T.does K.input inbox.old service.old sink.old out.old inbox.new service.new sink.new out.new) }
     ensures err { OnErr result (FailsAtEvent T.fails service.old sink.old out.old service.new sink.new out.new) }
 {
+    if inbox.over().is_some() && service.open_searches() > 0 {
+        await_answer(plan, service, crew, sink, out)?;
+        return Ok(true);
+    }
     match next_event(plan, service, crew) {
         Some(Event::Read(next)) => match inbox.take_in(next) {
             Ok(()) => Ok(true),
@@ -186,6 +227,43 @@ fn take_event<
         }
         None => Err(LiveError::CannotRead),
     }
+}
+
+/// Waits, after the end of the reading, until an open search has got its entry, and tells the sink of it. What is written next is
+/// this entry, which begins as that of any search does. So the sink can write of that beginning, byte by byte, while the search
+/// takes long, and thereby finds whether anybody still reads.
+fn await_answer<
+    J: service::Naming,
+    K: input::Naming,
+    R: Threads + Wait + Clock + Sync,
+    I: BufRead + Drop,
+    T: Sink<O>,
+    O,
+>(
+    plan: &Plan<'_, R>,
+    service: &mut Service<J>,
+    crew: &Crew<J, K, I>,
+    sink: &mut T,
+    out: &mut O,
+) -> Result<(), LiveError>
+    requires { service.old.awaited ≢ [] }
+    ensures ok { OnOk result (Answers T.does service.old sink.old out.old service.new sink.new out.new) }
+    ensures err { OnErr result ((last : ServiceState) × AnswersFront T.fails service.old sink.old out.old last sink.new out.new) }
+{
+    let mut ahead = 0;
+    for _ in plan.rt.forever() {
+        match next_answer(plan, service, crew, sink.patience(ahead)) {
+            Ok(done) => {
+                note_begun(plan, service, crew);
+                if let Some(entry) = service.answered(plan.rt, plan.alloc, done) {
+                    return sink.finish(plan.rt, plan.alloc, ahead, entry, out);
+                }
+            }
+            Err(RecvTimeoutError::Timeout) => ahead = sink.begin(ahead, out)?,
+            Err(RecvTimeoutError::Disconnected) => return Err(LiveError::CannotRead),
+        }
+    }
+    unreachable!()
 }
 
 /// Has the service take note of what was taken for searches.

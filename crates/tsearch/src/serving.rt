@@ -49,7 +49,9 @@ pub struct LiveOptions {
 /// Without readers, or if no thread can be started, the calling thread reads, and answers each search at once. A reader
 /// calls the gate at each point of a search.
 ///
-/// Each text is written whole and flushed. At most 16 items are read ahead and 1,024 searches are open, so a reader of the
+/// Each text is written whole and flushed. But while the input has ended and a search is open, the first bytes of the next text,
+/// which are those of `search `, may be written and flushed one by one before the others, at most 7 in some 63 seconds: so the
+/// session ends soon if nobody reads the output any more. At most 16 items are read ahead and 1,024 searches are open, so a reader of the
 /// output that stops also stops the input. Neither the script nor the entries are kept.
 ///
 /// What is written is the text of the entries of legal steps that take exactly the items of the input

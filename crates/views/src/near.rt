@@ -1,8 +1,9 @@
 //! The lines near the hits of one document.
 
-ghost use Rattle.std.specs.Prelude.{◌≡◌, ◌<◌, ◌≤◌, ◌+◌, ◌++◌, ◌∷◌, Bool, List, length, map, IfOk, OnOk};
+ghost use Rattle.std.specs.Prelude.{◌≡◌, ◌<◌, ◌≤◌, ◌+◌, ◌++◌, ◌∷◌, Bool, List, length, map, IfOk, IfErr, OnOk};
 ghost use Rattle.std.specs.List.Sorted.{IsStrictlyIncreasing};
 ghost use Rattle.lines.specs.Lines.{lines_of};
+ghost use Rattle.watch.specs.CalledOff.{IsCalledOffOnlyIf};
 ghost use Rattle.views.specs.Found.{Hit as HitValue};
 ghost use Rattle.views.specs.Hits.{hit_of};
 ghost use Rattle.views.specs.Text.{text_of_row, text_of_rows};
@@ -15,19 +16,30 @@ use crate::text::{append_all, append_hit};
 use index::SharedDocument;
 use memchr::memchr;
 use std::alloc::AllocError;
+use watch::{Pace, Unanswered, Watch};
 
-/// Appends the lines that are at most `most` lines before or after one of the hits.
-pub fn append_stretches(
+/// So many bytes of lines are passed, or of rows appended, between two looks at whether the answer is wanted.
+const LOOK: usize = 65_536;
+
+/// Appends the lines that are at most `most` lines before or after one of the hits; returns how many rows these are, with the gaps.
+/// `watch` is asked whether the answer is wanted at each 64 KiB that are passed or appended, or more often.
+///
+/// `CalledOff` is returned only after `watch.wants()` said `false`, and nothing is asked after that. `OutOfMemory` means that memory
+/// ran out. After an `Err`, `out` can have some of the rows.
+pub fn append_stretches<W: Watch>(
     out: &mut Vec<u8>,
     zero: bool,
     most: u32,
     document: &SharedDocument,
     hits: &Lines<'_>,
-) -> Result<usize, AllocError>
+    watch: &mut W,
+) -> Result<usize, Unanswered>
     requires rising { IsStrictlyIncreasing (map (λ h. h.line) hits.now) }
-    ensures { IfOk result (λ n. (rows : List Row) × (rows ≡ stretches most hits.now document.now.name document.now.held)
+    ensures rows { IfOk result (λ n. (rows : List Row) × (rows ≡ stretches most hits.now document.now.name document.now.held)
         × (n ≡ length rows) × (out.new.items ≡ out.old.items ++ text_of_rows zero rows)) }
+    ensures called_off { IfErr result (IsCalledOffOnlyIf (W.has_said_no watch.new)) }
 {
+    let mut pace = Pace::each(LOOK);
     let mut rest = document.held.body().as_bytes();
     let mut line: u32 = 1;
     let mut next = 0;
@@ -42,6 +54,7 @@ pub fn append_stretches(
             line,
             text,
         };
+        pace.look_after(shown.size(), watch)?;
         rest = others;
         line += 1;
         if !is_close(&ahead, shown.line, most, far) {

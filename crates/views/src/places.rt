@@ -11,6 +11,9 @@ use std::fmt;
 use std::fmt::{Debug, Formatter};
 use std::marker::Model;
 
+/// What a line has beside its name and its text: two colons, a line feed, and a number of at most ten digits.
+const BESIDE: usize = 13;
+
 /// A line that a search found.
 #[derive(Clone, Copy, Debug)]
 pub struct Hit<'a> {
@@ -20,6 +23,16 @@ pub struct Hit<'a> {
     pub line: u32,
     /// The bytes of the line, without its line feed. They are a part of the document's body.
     pub text: &'a [u8],
+}
+
+impl Hit<'_> {
+    /// A number of bytes that is enough for its line, with its name and its number.
+    pub fn size(&self) -> usize
+        ensures { length self.now.text.now ≤ result }
+    {
+        let name = self.name.as_bytes().len();
+        name.saturating_add(self.text.len()).saturating_add(BESIDE)
+    }
 }
 
 /// The place of a line in the body of a document.
@@ -206,9 +219,8 @@ impl<'a> Lines<'a> {
             return 0;
         };
         let text = (place.end as usize).saturating_sub(place.start as usize);
-        // Two colons, a line feed, and a number of at most ten digits.
         let name = document.name.as_bytes().len();
-        name.saturating_add(text).saturating_add(13)
+        name.saturating_add(text).saturating_add(BESIDE)
     }
 }
 

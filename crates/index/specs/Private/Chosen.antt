@@ -4,7 +4,7 @@ use Rattle.std.specs.Ordering.{nat_cmp, is_le}
 use Rattle.std.specs.Cmp.Lexicographic.{slice_cmp}
 use Rattle.std.specs.BTreeMap.Range.{is_from_start}
 use Rattle.std.specs.declared.ops.Bound.{Bound}
-use Rattle.index.specs.Documents.{Document, document, document_at}
+use Rattle.index.specs.Private.Numbered.{Document, document, document_at}
 
 -- the document with a number, if there is one
 abbrev pub numbered_document : ℕ → Option (List ℕ × List ℕ) → List Document

@@ -1,5 +1,5 @@
 -- How the sets of an index follow its documents.
-use Rattle.std.specs.Prelude.{◌≡◌, ℕ, ◌<◌, ◌≤◌, not, true, false, ◌&&◌, ◌||◌, ◌==◌, Bool, nat_lt, List, All, Option, Some, None, map, filter}
+use Rattle.std.specs.Prelude.{◌≡◌, ℕ, ◌+◌, ◌<◌, ◌≤◌, not, true, false, ◌&&◌, ◌||◌, ◌==◌, Bool, nat_lt, List, All, Option, Some, None, map, filter}
 use Rattle.std.specs.List.{list_any}
 use Rattle.query.specs.Trigrams.{TrigramSet, trigrams_of_body}
 use Rattle.posting.specs.ListValue.{has, HasRoom}
@@ -8,7 +8,7 @@ use Rattle.index.specs.declared.sets.Sets.{Sets}
 use Rattle.index.specs.declared.sets.Waiting.{Waiting}
 use Rattle.index.specs.declared.sets.Waiting.TheVariants.{One, From}
 use Rattle.index.specs.declared.sets.Change.{Change}
-use Rattle.index.specs.Documents.{Document, document_at}
+use Rattle.index.specs.Private.Numbered.{Document, document_at}
 use Rattle.index.specs.Private.Slots.{without_number}
 
 -- There is room for a document with this number and these trigrams in all sets that it goes into.
@@ -44,13 +44,13 @@ trigrams_before (Some old) trigram = trigrams_of_body old trigram
 abbrev pub is_whole : Option Waiting → ℕ → ℕ → Bool
 is_whole None trigram number = true
 is_whole (Some (One waiting next old)) trigram number = not (number == waiting) || nat_lt trigram next
-is_whole (Some (From first)) trigram number = nat_lt number first
+is_whole (Some (From first next)) trigram number = nat_lt number first || ((number == first) && nat_lt trigram next)
 
 -- whether the number can still be in the set of the trigram, since the body that its document had before has the trigram
 abbrev pub is_left : Option Waiting → ℕ → ℕ → Bool
 is_left None trigram number = false
 is_left (Some (One waiting next old)) trigram number = (number == waiting) && (not (nat_lt trigram next) && trigrams_before old trigram)
-is_left (Some (From first)) trigram number = false
+is_left (Some (From first next)) trigram number = false
 
 abbrev pub NoneIsLeft : Option Waiting → Type 0
 NoneIsLeft waiting = (trigram number : ℕ) → is_left waiting trigram number ≡ false
@@ -71,6 +71,23 @@ abbrev pub still_waiting : ℕ → Option (List ℕ) → Option ℕ → Option W
 still_waiting number old None = None
 still_waiting number old (Some next) = Some (One number next old)
 
+-- what waits when the first document of those from a number on that wait has come to the next trigram
+abbrev pub waiting_from : ℕ → Option ℕ → Waiting
+waiting_from number None = From (number + 1) 0
+waiting_from number (Some next) = From number next
+
+-- The document with this number is one of those from some number on, which all wait.
+pub record IsAmongWaiting (number : ℕ) (waiting : Option Waiting) : Type 0 where
+  pub first : ℕ
+  pub from : ℕ
+  pub is : waiting ≡ Some (From first from)
+  pub among : first ≤ number
+
+-- The document with this number waits with all its trigrams, and of the others at least those wait that did before.
+pub record WaitsWhole (number : ℕ) (before after : Option Waiting) : Type 0 where
+  pub others : (t n : ℕ) → is_whole after t n ≡ true → (is_whole before t n ≡ true) × ((number == n) ≡ false)
+  pub none_left : NoneIsLeft after
+
 abbrev pub ReachesNext : Option Waiting → Option ℕ → Option Waiting → Type 0
 ReachesNext before next after = (number from : ℕ) (old : Option (List ℕ)) → before ≡ Some (One number from old) → after ≡ still_waiting number old next
 
@@ -89,7 +106,7 @@ StayInStep number trigrams before after =
 -- first of these and has these trigrams.
 abbrev pub StayInStepNext : ℕ → List ℕ → Sets → Sets → Type 0
 StayInStepNext number trigrams before after =
-    (documents : List Document) (first : ℕ) → AreSetsOf documents before → before.waiting ≡ Some (From first)
+    (documents : List Document) (first from : ℕ) → AreSetsOf documents before → before.waiting ≡ Some (From first from)
     → ((n : ℕ) → first ≤ n → n < number → document_at n documents ≡ None) → ((t : ℕ) → has trigrams t ≡ trigrams_at documents number t)
     → AreSetsOf documents after
 

@@ -3,7 +3,7 @@ use Rattle.std.specs.Prelude.{ℕ, ◌+◌, ◌*◌, ◌≤◌, length, not, ◌
 use Rattle.std.specs.List.Sorted.{IsStrictlyIncreasing}
 use Rattle.index.specs.declared.slots.Slot.{Slot}
 use Rattle.index.specs.declared.slots.Occupant.{Occupant}
-use Rattle.index.specs.Documents.{Document, document}
+use Rattle.index.specs.Private.Numbered.{Document, document}
 
 -- the document with this number and occupant, if there is an occupant
 abbrev pub documents_of_slot : ℕ → Option Occupant → List Document

@@ -9,8 +9,7 @@ use Rattle.posting.specs.ListValue.{has, HasRoom}
 use Rattle.posting.specs.Postings.{set_of, IsPrepared, AllDiffer}
 use Rattle.index.specs.declared.sets.Change.{Change}
 use Rattle.index.specs.declared.store.Store.{Store}
-use Rattle.index.specs.Documents.{Document, document_at, number_of}
-use Rattle.index.specs.State.{state, body_bytes, IsState}
+use Rattle.index.specs.Private.Numbered.{Document, document_at, number_of, state, body_bytes, IsState}
 use Rattle.index.specs.Private.Slots.{documents_in, RiseTo, FewAreEmpty}
 use Rattle.index.specs.Private.Sets.{AreSetsOf, NoneIsLeft, trigrams_at}
 

@@ -1,7 +1,8 @@
 -- The candidates that are taken first.
-use Rattle.std.specs.Prelude.{◌≡◌, ℕ, ◌<◌, List, [], ◌++◌, filter, length}
-use Rattle.index.specs.Documents.{AreFirstInNameOrder, is_chosen}
-use Rattle.index.specs.Shared.{documents_shared}
+use Rattle.std.specs.Prelude.{◌≡◌, ℕ, ◌<◌, List, [], ◌++◌, length}
+use Rattle.query.specs.Query.{Formula}
+use Rattle.index.specs.Shared.{AreCandidates}
+use Rattle.index.specs.declared.document.Candidates.{Candidates}
 use Rattle.prepare.specs.Pattern.{Pattern}
 use Rattle.search.specs.Front.{AreFronts}
 use Rattle.index.specs.State.{State}
@@ -16,8 +17,8 @@ pub record IsTakenUpTo (most : ℕ) (state : State) (request : Request) (taken :
   pub is : IsTakenAmong (taken.candidates.items ++ others) state request taken
   pub all_or_most : length taken.candidates.items < most → others ≡ []
 
--- Of the documents with these numbers whose names begin as every name begins that is asked for, they are the first ones.
-pub record AreFirstFronted (most : ℕ) (state : State) (pattern : Pattern) (members : List ℕ) (shared : List SharedDocument) : Type 0 where
+-- How many documents meet the formula, and of those of them whose names begin as every name begins that is asked for the first ones.
+pub record AreFirstFronted (most : ℕ) (state : State) (pattern : Pattern) (formula : Formula) (found : Candidates) : Type 0 where
   pub fronts : List (List ℕ)
   pub named : AreFronts pattern fronts
-  pub first : AreFirstInNameOrder most (filter (is_chosen members fronts) state.documents) (documents_shared shared)
+  pub are : AreCandidates formula fronts most state.documents found

@@ -56,4 +56,4 @@ pub data TakesEvent {W O : Type 0} (Does : W → O → News → W → O → Type
 pub data FailsAtEvent {W O : Type 0} (Fails : W → O → News → W → O → Type 0) (old : ServiceState) (sink : W) (out : O) (new : ServiceState) (sink' : W)
     (out' : O) : Type 0 where
   at_once : sink' ≡ sink → out' ≡ out → FailsAtEvent Fails old sink out new sink' out'
-  in_part : AnswersFront Fails old sink out new sink' out' → FailsAtEvent Fails old sink out new sink' out'
+  in_part : {last : ServiceState} → AnswersFront Fails old sink out last sink' out' → FailsAtEvent Fails old sink out new sink' out'

@@ -1,5 +1,5 @@
 -- What the sinks of a run and of a session do with news.
-use Rattle.std.specs.Prelude.{◌≡◌, ◌||◌, ℕ, ◌<◌, Bool, if◌then◌else◌, List, Option, Some}
+use Rattle.std.specs.Prelude.{◌≡◌, ◌||◌, ℕ, ◌<◌, Bool, if◌then◌else◌, List, Option, Some, codes, take}
 use Rattle.std.specs.List.{list_any}
 use Rattle.std.specs.Io.KnownBytes.{Appends}
 use Rattle.service.specs.Collected.{CollectedState, number_in, pushed, filled}
@@ -46,6 +46,14 @@ abbrev pub WritesFront : Bool → Option (List ℕ) → News → Option (List �
 WritesFront stats out (news.Entry entry) out' = AppendsFront out out' (text_of_entry stats entry)
 WritesFront stats out (news.Open search) out' = out' ≡ out
 WritesFront stats out (news.Answer entry) out' = AppendsFront out out' (text_of_entry stats entry)
+
+-- what the text of the entry of any search begins with
+abbrev pub beginning : List ℕ
+beginning = codes "search "
+
+-- So many bytes of that are out, and no entry was written since.
+abbrev pub IsAhead : ℕ → Bool → Marks → Option (List ℕ) → Bool → Marks → Option (List ℕ) → Type 0
+IsAhead ahead stats marks out stats' marks' out' = (stats' ≡ stats) × (marks' ≡ marks) × Appends out out' (take ahead beginning)
 
 -- The entries are those of a legal transcript for the script, if its bytes are known.
 abbrev pub IsLegalFor : Option (List ℕ) → Options → (List ℕ → List ℕ → Type 0) → ℕ → ℕ → List Entry → Type 0

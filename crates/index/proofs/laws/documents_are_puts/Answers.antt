@@ -1,8 +1,14 @@
-use Rattle.index.proofs.PutLemmas.{IsDocument-Contains, Contains-IsDocument, numbers_increase}
+use Rattle.index.specs.Documents.{documents_of}
+use Rattle.index.proofs.LawLemmas.{last-found, found-last}
+use Rattle.index.proofs.ListedLemmas.{listed-rises, listed-found, found-listed}
 use Rattle.index.proofs.laws.documents_are_puts.Goals as goal
 
 pub returns-clause-which : goal.returns-clause-which
-returns-clause-which c = λ commands d. (IsDocument-Contains commands d, Contains-IsDocument commands d)
+returns-clause-which c =
+    λ commands d. (
+      λ there. found-last commands d.name d.body (found-listed (documents_of commands) d there),
+      λ put. listed-found (documents_of commands) d (last-found commands d.name d.body put),
+    )
 
 pub returns-clause-once : goal.returns-clause-once
-returns-clause-once c = numbers_increase
+returns-clause-once c = λ commands. listed-rises (documents_of commands)

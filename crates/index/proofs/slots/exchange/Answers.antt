@@ -3,7 +3,7 @@ use Rattle.std.specs.Prelude.{option_map}
 use Rattle.std.proofs.Math.Seq.{map-set_same, set-get_or}
 use Rattle.std.proofs.lemmas.Option.{slice_get_read}
 use Rattle.index.specs.declared.slots.Slot.{Slot}
-use Rattle.index.specs.Documents.{document_at}
+use Rattle.index.specs.Private.Numbered.{document_at}
 use Rattle.index.specs.Private.Slots.{texts_of, documents_in, RiseTo}
 use Rattle.index.proofs.SlotLemmas.{document_at-absent, document_at-here, with_body_at-absent, documents_in-exchanged, rising}
 use Rattle.index.proofs.slots.exchange.Goals as goal

@@ -1,6 +1,6 @@
 use Rattle.std.proofs.Common.{◌≡◌, Some, sym, ◌∙◌, ap}
 use Rattle.posting.specs.ListValue.{has}
-use Rattle.index.specs.Documents.{document_at}
+use Rattle.index.specs.Private.Numbered.{document_at}
 use Rattle.index.specs.Private.Slots.{documents_in}
 use Rattle.index.specs.Private.Sets.{trigrams_shown}
 use Rattle.index.proofs.StoredLemmas.{listed}

@@ -7,19 +7,19 @@ use Rattle.search.specs.Front.{AreFronted}
 use Rattle.search.specs.Taken.{IsTakenAmong}
 use Rattle.search.proofs.first.take_first.Goals as goal
 
-pub returns-then-len-most : goal.returns-then-len-most
-returns-then-len-most c =
+pub returns-then-len-most-clause-first : goal.returns-then-len-most-clause-first
+returns-then-len-most-clause-first g c =
     let taken = c.in_ok-taken.taken in
-    let up_to = c.in_ok-taken.ensures in
+    let up_to = c.in_ok-taken.ensures.taken in
     subst (λ ds. IsTakenAmong ds c.args.index.now (request_of c.args.prepared.now) taken)
     (ap (λ ds. taken.candidates.items ++ ds) (up_to.all_or_most (omega (arith, c.len.ensures, c.if-len-most.true, taken.candidates.ok)))
     ∙ append-nil taken.candidates.items) up_to.is
 
-pub returns : goal.returns
-returns c =
+pub returns-clause-first : goal.returns-clause-first
+returns-clause-first g c =
     let items = c.in_ok-taken.taken.candidates.items in
-    let up_to = c.in_ok-taken.ensures in
-    let few = c.documents_with-few.result in
+    let up_to = c.in_ok-taken.ensures.taken in
+    let few = c.in_ok-few.few in
     let others = drop few items ++ up_to.others in
     let same =
     ap (λ ds. ds ++ others) c.truncate.ensures.items

@@ -1,8 +1,9 @@
 use Rattle.std.proofs.Common.{List, sym, subst, refl}
 use Rattle.index.specs.declared.command.Command.{Command}
-use Rattle.index.specs.Documents.{IsPutLast, document}
+use Rattle.index.specs.Documents.{IsPutLast, document, documents_of}
 use Rattle.index.specs.State.{state_of}
-use Rattle.index.proofs.PutLemmas.{IsDocument-Contains, Contains-IsPutLast}
+use Rattle.index.proofs.LawLemmas.{found-last, last-found}
+use Rattle.index.proofs.ListedLemmas.{found-listed, listed-found}
 use Rattle.prepare.specs.Pattern.{Pattern}
 use Rattle.views.specs.Found.{Hit}
 use Rattle.search.specs.Scan.{IsHit}
@@ -13,7 +14,8 @@ to_put : (commands : List Command) (pattern : Pattern) (found : Hit) → IsHit (
 to_put commands pattern found h = record {
   body = h.document.body;
   put =
-      subst (λ name. IsPutLast commands name h.document.body) (sym h.named) (IsDocument-Contains commands h.document h.there).last;
+      subst (λ name. IsPutLast commands name h.document.body) (sym h.named)
+      (found-last commands h.document.name h.document.body (found-listed (documents_of commands) h.document h.there));
   counted = h.counted;
   line = h.line;
   hit = h.hit;
@@ -21,17 +23,15 @@ to_put commands pattern found h = record {
 }
 
 from_put : (commands : List Command) (pattern : Pattern) (found : Hit) → IsHitOfPut commands pattern found → IsHit (state_of commands) pattern found
-from_put commands pattern found h =
-    let at = Contains-IsPutLast commands found.name h.body h.put in
-    record {
-      document = document at.0 found.name h.body;
-      there = at.1;
-      named = refl;
-      counted = h.counted;
-      line = h.line;
-      hit = h.hit;
-      admitted = h.admitted;
-    }
+from_put commands pattern found h = record {
+  document = document found.name h.body;
+  there = listed-found (documents_of commands) (document found.name h.body) (last-found commands found.name h.body h.put);
+  named = refl;
+  counted = h.counted;
+  line = h.line;
+  hit = h.hit;
+  admitted = h.admitted;
+}
 
 pub returns-clause-version : goal.returns-clause-version
 returns-clause-version c = λ commands pattern answer is. is.version

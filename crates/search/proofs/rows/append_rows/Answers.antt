@@ -36,10 +36,11 @@ returns-in-Lines-clause-rows g c =
     as_lines (request_of c.args.wanted.now.prepared.now) c.args.document.now.name c.args.document.now.held c.args.hits.now
     c.args.wanted.now.prepared.now.zero c.args.out.now.items c.args.out.now.items _ c.args.wanted.now.view c.in-Lines.is c.len.ensures refl
 
-pub returns-in_ok-append_stretches-in-Context-clause-rows : goal.returns-in_ok-append_stretches-in-Context-clause-rows
-returns-in_ok-append_stretches-in-Context-clause-rows g c =
-    as_context (request_of c.args.wanted.now.prepared.now) c.args.document.now.name c.args.document.now.held c.args.hits.now
-    c.args.wanted.now.prepared.now.zero c.args.out.now.items c.append_stretches.new.out.items _ c.args.wanted.now.view c.in-Context.most c.in-Context.is c.in_ok-append_stretches-in-Context.ensures
+pub returns-in-Context-clause-rows : goal.returns-in-Context-clause-rows
+returns-in-Context-clause-rows g c =
+    IfOk-weaker c.append_stretches.result _ _ (λ n made. as_context (request_of c.args.wanted.now.prepared.now) c.args.document.now.name c.args.document.now.held c.args.hits.now
+    c.args.wanted.now.prepared.now.zero c.args.out.now.items c.append_stretches.new.out.items n c.args.wanted.now.view c.in-Context.most c.in-Context.is made)
+    c.append_stretches.ensures.rows
 
 pub returns-in-Some-clause-rows : goal.returns-in-Some-clause-rows
 returns-in-Some-clause-rows g c =

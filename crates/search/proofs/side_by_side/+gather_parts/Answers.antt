@@ -16,7 +16,7 @@ returns-then-found-clause-joins g t c = λ own.
     let wanted = c.args.wanted.now in
     let first = c.split_at.result.0.now in
     let others = c.split_at.result.1.now in
-    let same = both-sides c.args.documents.now first others c.documents_with.result c.split_at.ensures.front c.split_at.ensures.back in
+    let same = both-sides c.args.documents.now first others c.in_ok-at.at c.split_at.ensures.front c.split_at.ensures.back in
     let own_both = subst HaveOwnNames (sym same) own in
     let one = IfOk-at_ok (Found wanted first) c.in_ok-found.was c.join-found.ensures.first.0 in
     subst (λ ds. Joins wanted wanted.limit ds c.in_ok-found.found) same
@@ -27,7 +27,7 @@ returns-clause-joins g t c =
     let wanted = c.args.wanted.now in
     let first = c.split_at.result.0.now in
     let others = c.split_at.result.1.now in
-    let same = both-sides c.args.documents.now first others c.documents_with.result c.split_at.ensures.front c.split_at.ensures.back in
+    let same = both-sides c.args.documents.now first others c.in_ok-at.at c.split_at.ensures.front c.split_at.ensures.back in
     let one = IfOk-at_ok (Found wanted first) c.in_ok-found.was c.join-found.ensures.first.0 in
     let two = IfOk-at_ok (Found wanted others) c.in_ok-rest.was c.join-found.ensures.second.0 in
     IfOk-weaker c.join_parts.result _ _ (λ joined is. λ own.

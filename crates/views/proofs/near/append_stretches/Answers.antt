@@ -6,7 +6,7 @@ use Rattle.views.proofs.NearLemmas.{far_is_none, leads_first, leads_on, walk_beg
 use Rattle.views.proofs.near.append_stretches.Goals as goal
 
 pub loop-rest-init : goal.loop-rest-init
-loop-rest-init c =
+loop-rest-init g c =
     let hits = c.args.hits.now in
     record {
       walk = walk_begin c.args.zero c.args.most hits c.args.document.now.name c.args.document.now.held c.args.out.now.items c.as_bytes-rest.result.now (c.as_bytes-rest.ensures.bytes ∙ c.body.ensures);
@@ -15,15 +15,15 @@ loop-rest-init c =
       few = omega arith;
     }
 
-pub returns-then-is_empty : goal.returns-then-is_empty
-returns-then-is_empty c =
+pub returns-then-is_empty-clause-rows : goal.returns-then-is_empty-clause-rows
+returns-then-is_empty-clause-rows g c =
     let at = c.loop-rest in
     walk_none c.args.zero c.args.most c.args.hits.now c.args.document.now.name c.args.document.now.held c.args.out.now.items at.out.items
     at.rows at.line at.next at.far at.ahead at.rest.now at.invariant.walk at.invariant.leads (subst (λ b. MatchBool b (at.ahead ≡ []) (0 < length at.ahead)) c.if-is_empty.true c.is_empty-then-not-is_close.ensures)
     (sym c.is_close.ensures ∙ c.if-not-is_close.true)
 
 pub loop-rest-preserved-then-not-is_close : goal.loop-rest-preserved-then-not-is_close
-loop-rest-preserved-then-not-is_close c =
+loop-rest-preserved-then-not-is_close g c =
     let at = c.loop-rest in
     let away = sym c.is_close.ensures ∙ c.if-not-is_close.true in
     let shorter : length c.split_line.result.1.now < length at.rest.now = c.split_line.ensures.shorter in
@@ -38,7 +38,7 @@ loop-rest-preserved-then-not-is_close c =
     }
 
 pub loop-rest-preserved : goal.loop-rest-preserved
-loop-rest-preserved c =
+loop-rest-preserved g c =
     let at = c.loop-rest in
     let shorter : length c.split_line.result.1.now < length at.rest.now = c.split_line.ensures.shorter in
     record {
@@ -52,8 +52,8 @@ loop-rest-preserved c =
       few = omega (arith, at.invariant.few, c.in_ok-rows.ensures.few);
     }
 
-pub returns : goal.returns
-returns c =
+pub returns-clause-rows : goal.returns-clause-rows
+returns-clause-rows g c =
     let at = c.loop-rest in
     let empty : length at.rest.now ≡ 0 = grind (arith, nat_tests) in
     walk_end c.args.zero c.args.most c.args.hits.now c.args.document.now.name c.args.document.now.held c.args.out.now.items at.out.items

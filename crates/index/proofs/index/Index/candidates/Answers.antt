@@ -1,23 +1,23 @@
-use Rattle.std.proofs.Common.{◌≡◌, map, sym, ◌∙◌, ap}
-use Rattle.std.specs.Prelude.{filter}
-use Rattle.std.proofs.lemmas.Result.{IfOk-weaker}
-use Rattle.query.specs.Query.{formula_of, is_met}
-use Rattle.posting.specs.Postings.{trigrams_with}
-use Rattle.index.specs.Documents.{meets}
-use Rattle.index.specs.Private.Store.{stored}
-use Rattle.index.proofs.IndexLemmas.{numbered}
-use Rattle.index.proofs.OrderLemmas.{candidates_are}
+use Rattle.std.proofs.Common.{subst, arith}
+use Rattle.query.specs.Query.{formula_of}
+use Rattle.index.specs.Shared.{AreCandidates}
+use Rattle.index.specs.declared.document.Candidates.{Candidates}
+use Rattle.index.proofs.PlainLemmas.{candidates-plain, fewer-plain}
 use Rattle.index.proofs.index.Index.candidates.Goals as goal
 
-pub returns-in-None : goal.returns-in-None
-returns-in-None c =
+pub overflow_cast-result : goal.overflow_cast-result
+overflow_cast-result g c =
+    omega (
+      arith,
+      c.len.ensures,
+      c.documents.ensures,
+      fewer-plain c.self.inside.catalog c.version.ensures.state (formula_of c.args.query.now) c.in_ok-chosen.chosen.members c.in_ok-chosen.ensures.chosen,
+    )
+
+pub returns-clause-candidates : goal.returns-clause-candidates
+returns-clause-candidates g c =
     let formula = formula_of c.args.query.now in
-    let store = c.self.inside.store in
-    let ds = stored store in
-    let is = c.self.invariant in
-    let shown = ap (λ s. map (λ d. d.number) (filter (meets formula) s.documents)) c.self.view_is in
-    IfOk-weaker c.select.result
-    (λ chosen. chosen.members ≡ filter (λ n. is_met formula (trigrams_with store.sets.postings n)) store.sets.live.members)
-    (λ chosen. chosen.members ≡ map (λ d. d.number) (filter (meets formula) c.args.self.now.documents))
-    (λ chosen e. e ∙ (candidates_are ds (numbered c.self.inside.version ds is.is_state) store.sets formula is.kept.sets (sym c.in-None.is) ∙ shown))
-    c.select.ensures
+    let found : Candidates = record { count = c.len.result; documents = c.in_ok-documents.documents } in
+    subst (λ s. AreCandidates formula c.args.prefixes.now c.args.most s.documents found) c.self.view_is
+    (candidates-plain c.self.inside.catalog c.version.ensures.state formula c.in_ok-chosen.chosen.members c.in_ok-chosen.ensures.chosen c.args.prefixes.now
+    c.args.most found c.len.ensures c.in_ok-documents.ensures.documents)

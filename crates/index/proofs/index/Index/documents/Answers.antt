@@ -1,10 +1,8 @@
-use Rattle.std.proofs.Common.{arith}
-use Rattle.index.specs.Private.Store.{stored}
-use Rattle.index.proofs.ApplyLemmas.{length-documents}
+use Rattle.std.proofs.Common.{sym, ◌∙◌, ap}
+use Rattle.std.specs.FinMap.{len}
+use Rattle.index.proofs.PlainLemmas.{length-plain}
 use Rattle.index.proofs.index.Index.documents.Goals as goal
 
-pub overflow_cast-result : goal.overflow_cast-result
-overflow_cast-result c =
-    let ds = stored c.self.inside.store in
-    let is = c.self.invariant in
-    omega (arith, is.kept.counted, length-documents c.self.inside.version ds is.is_state, is.few)
+pub returns : goal.returns
+returns c =
+    c.documents.ensures ∙ sym (length-plain c.self.inside.catalog c.version.ensures.state) ∙ ap (λ s. len s.documents) c.self.view_is

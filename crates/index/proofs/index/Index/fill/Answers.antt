@@ -1,7 +1,6 @@
-use Rattle.index.proofs.IndexLemmas.{IsIndex-room}
+use Rattle.std.proofs.Common.{◌∙◌, ap}
+use Rattle.index.specs.Private.Plain.{plain_state}
 use Rattle.index.proofs.index.Index.fill.Goals as goal
 
-pub invariant_of-self : goal.invariant_of-self
-invariant_of-self g c =
-    IsIndex-room c.self.inside.version c.self.inside.numbers c.self.inside.store c.fill.new.self c.self.invariant c.fill.ensures.documents
-    (c.fill.ensures.store c.self.inside.version c.self.invariant.kept)
+pub returns : goal.returns
+returns g c = ap plain_state c.fill.ensures ∙ c.self.view_is

@@ -1,10 +1,6 @@
-use Rattle.index.proofs.IndexLemmas.{IsIndex-room}
+use Rattle.std.proofs.Common.{◌∙◌, ap}
+use Rattle.index.specs.Private.Plain.{plain_state}
 use Rattle.index.proofs.index.Index.fill_some.Goals as goal
 
-pub fill_some-requires : goal.fill_some-requires
-fill_some-requires c = (c.self.inside.version, c.self.invariant.kept)
-
-pub invariant_of-self : goal.invariant_of-self
-invariant_of-self c =
-    IsIndex-room c.self.inside.version c.self.inside.numbers c.self.inside.store c.fill_some.new.self c.self.invariant c.fill_some.ensures.documents
-    (c.fill_some.ensures.store c.self.inside.version c.self.invariant.kept)
+pub returns : goal.returns
+returns c = ap plain_state c.fill_some.ensures ∙ c.self.view_is

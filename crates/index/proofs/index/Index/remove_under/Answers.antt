@@ -1,25 +1,14 @@
-use Rattle.std.proofs.Common.{◌+◌, ◌∙◌, sym, ap}
-use Rattle.index.specs.Documents.{without_under}
-use Rattle.index.specs.State.{State, state}
-use Rattle.index.proofs.RemovedLemmas.{still_without, all_stay}
+use Rattle.std.proofs.Common.{ap, arith}
+use Rattle.index.specs.declared.command.Command.TheVariants.{RemoveUnder}
+use Rattle.index.proofs.PlainLemmas.{carried_out, refused}
 use Rattle.index.proofs.index.Index.remove_under.Goals as goal
 
-pub loop-preserved : goal.loop-preserved
-loop-preserved c =
-    let taken = c.take_under.ensures.taken c.loop-test.true in
-    let text = c.args.prefix.now in
-    record {
-      version = ap (λ s. s.version) taken.left ∙ c.loop.invariant.version;
-      same =
-          ap (λ s. without_under text s.documents) taken.left
-          ∙ (still_without text taken.name c.loop.self.documents taken.begins ∙ c.loop.invariant.same);
-    }
+pub remove_under-requires : goal.remove_under-requires
+remove_under-requires c = omega (arith, c.requires, ap (λ s. s.version) c.self.view_is)
 
 pub returns-clause-ok : goal.returns-clause-ok
 returns-clause-ok c =
-    let text = c.args.prefix.now in
-    let none = c.take_under.ensures.none c.loop-test.false in
-    let later : State → State = λ s. state (s.version + 1) s.documents in
-    ap later (c.self.view_is ∙ none.0)
-    ∙ (ap (λ v. state (v + 1) c.loop.self.documents) c.loop.invariant.version
-    ∙ ap (state (c.args.self.now.version + 1)) (sym (all_stay text c.loop.self.documents none.1) ∙ c.loop.invariant.same))
+    carried_out c.remove_under.result (RemoveUnder c.args.prefix.now) c.self.inside.catalog c.remove_under.new.self c.args.self.now c.self.view_is c.remove_under.ensures.ok
+
+pub returns-clause-err : goal.returns-clause-err
+returns-clause-err c = refused c.remove_under.result c.self.inside.catalog c.remove_under.new.self c.args.self.now c.self.view_is c.remove_under.ensures.err

@@ -17,6 +17,6 @@ returns-then-is_none-clause-sets c = λ ds name kept at.
 pub returns-else-later-clause-sets : goal.returns-else-later-clause-sets
 returns-else-later-clause-sets c = λ ds name kept at.
     let live : c.give_back.new.self.members ≡ without c.args.number c.args.self.now.live.members = search rules in
-    let new : Sets = record { live = c.give_back.new.self; postings = c.withdraw.new.self; waiting = c.args.self.now.waiting } in
+    let new : Sets = record { live = c.give_back.new.self; postings = c.leave.new.postings; waiting = c.args.self.now.waiting } in
     AreSetsOf-take ds c.args.number name c.args.held c.trigrams-trigrams.result.now c.args.self.now new kept at c.trigrams-trigrams.ensures.trigrams live
-    refl c.withdraw.ensures.sets
+    refl c.leave.ensures

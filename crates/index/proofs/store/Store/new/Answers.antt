@@ -1,7 +1,6 @@
 use Rattle.std.proofs.Common.{sym, ap, subst, arith, length, ◌∙◌}
 use Rattle.std.proofs.lemmas.Bool.{false≢true}
-use Rattle.index.specs.Documents.{document_at}
-use Rattle.index.specs.State.{body_bytes}
+use Rattle.index.specs.Private.Numbered.{document_at, body_bytes}
 use Rattle.index.specs.Private.Slots.{documents_in, RiseTo, FewAreEmpty}
 use Rattle.index.specs.Private.Sets.{AreSetsOf, is_left}
 use Rattle.index.proofs.StoredLemmas.{RiseTo-none}

@@ -3,7 +3,7 @@ use Rattle.std.proofs.lemmas.Result.{IfOk-weaker}
 use Rattle.query.specs.Trigrams.{ListsTrigrams}
 use Rattle.posting.specs.Postings.{IsPrepared}
 use Rattle.index.specs.declared.store.Store.{Store}
-use Rattle.index.specs.Documents.{document_at}
+use Rattle.index.specs.Private.Numbered.{document_at}
 use Rattle.index.specs.Private.Slots.{documents_in, RiseTo}
 use Rattle.index.specs.Private.Sets.{IsChange, NoneIsLeft, is_left}
 use Rattle.index.specs.Private.Store.{stored, IsReadyFor}

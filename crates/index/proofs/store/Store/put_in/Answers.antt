@@ -1,7 +1,6 @@
 use Rattle.std.proofs.Common.{◌≡◌, ◌+◌, ◌++◌, ◌∷◌, [], Some, sym, ◌∙◌, ap, subst, arith, length}
 use Rattle.std.proofs.lemmas.List.{length-append}
-use Rattle.index.specs.Documents.{document}
-use Rattle.index.specs.State.{body_bytes}
+use Rattle.index.specs.Private.Numbered.{document, body_bytes}
 use Rattle.index.specs.Private.Slots.{documents_in, RiseTo}
 use Rattle.index.specs.Private.Sets.{AreSetsOf}
 use Rattle.index.specs.Private.Store.{stored}

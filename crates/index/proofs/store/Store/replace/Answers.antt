@@ -2,8 +2,7 @@ use Rattle.std.proofs.Common.{◌≡◌, sym, ◌∙◌, ap, subst, arith, lengt
 use Rattle.std.specs.Prelude.{option_map}
 use Rattle.std.specs.Vec.{with_items}
 use Rattle.std.proofs.lemmas.List.{length-map, with_items_is}
-use Rattle.index.specs.Documents.{document_at}
-use Rattle.index.specs.State.{body_bytes}
+use Rattle.index.specs.Private.Numbered.{document_at, body_bytes}
 use Rattle.index.specs.Private.Slots.{documents_in, RiseTo, FewAreEmpty, with_body_at}
 use Rattle.index.specs.Private.Sets.{AreSetsOf}
 use Rattle.index.specs.Private.Store.{stored}

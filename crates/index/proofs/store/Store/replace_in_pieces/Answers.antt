@@ -4,8 +4,8 @@ use Rattle.std.specs.Vec.{with_items}
 use Rattle.std.proofs.lemmas.List.{length-map, with_items_is}
 use Rattle.index.specs.declared.sets.Sets.{Sets}
 use Rattle.index.specs.declared.sets.Waiting.TheVariants.{One}
-use Rattle.index.specs.Documents.{document_at}
-use Rattle.index.specs.State.{body_bytes}
+use Rattle.index.specs.Private.Numbered.{document_at}
+use Rattle.index.specs.Private.Numbered.{body_bytes}
 use Rattle.index.specs.Private.Slots.{documents_in, RiseTo, FewAreEmpty, with_body_at}
 use Rattle.index.specs.Private.Sets.{AreSetsOf}
 use Rattle.index.specs.Private.Store.{stored}

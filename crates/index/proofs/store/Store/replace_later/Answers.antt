@@ -2,8 +2,8 @@ use Rattle.std.proofs.Common.{◌≡◌, sym, ◌∙◌, ap, subst, arith, lengt
 use Rattle.std.specs.Prelude.{option_map}
 use Rattle.std.specs.Vec.{with_items}
 use Rattle.std.proofs.lemmas.List.{length-map, with_items_is}
-use Rattle.index.specs.Documents.{document_at}
-use Rattle.index.specs.State.{body_bytes}
+use Rattle.index.specs.Private.Numbered.{document_at}
+use Rattle.index.specs.Private.Numbered.{body_bytes}
 use Rattle.index.specs.Private.Slots.{documents_in, RiseTo, FewAreEmpty, with_body_at}
 use Rattle.index.specs.Private.Sets.{AreSetsOf}
 use Rattle.index.specs.Private.Store.{stored}
@@ -50,7 +50,7 @@ returns-in-Some-clause-store c = λ last kept.
       sets =
           subst (λ ds. AreSetsOf ds c.withdraw.new.self) (sym (ap documents_in moved ∙ documents))
           (AreSetsOf-waits (stored old) c.args.number at.0 c.in-Some.old c.args.held c.trigrams.result.now old.sets c.withdraw.new.self kept.sets at.1
-          c.trigrams.ensures.trigrams c.requires.waits c.requires.none_left c.withdraw.ensures.live c.withdraw.ensures.waiting c.withdraw.ensures.postings);
+          c.trigrams.ensures.trigrams c.requires.waits (c.withdraw.ensures.waiting c.requires.waits) c.withdraw.ensures.live c.withdraw.ensures.postings);
       counted = omega (arith, ap (λ xs. length (documents_in xs)) moved, documents_same, kept.counted);
       bytes = omega (arith, bytes, left, new_size, old_size, kept.bytes);
     }

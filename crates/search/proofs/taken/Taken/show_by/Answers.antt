@@ -20,6 +20,6 @@ returns-clause-shown g c =
     let joins = subst (λ ds. HaveOwnNames ds → Joins wanted wanted.limit ds joined) c.as_slice.ensures.value c.in_ok-joined.ensures.joins in
     subst (λ s. IsShownOf state request s) (sym same)
     (subst (λ r. IsShownOf state r (shown_with taken.prepared.now.view taken.version taken.documents taken.count joined)) of.prepared
-    (shown-is state taken.prepared.now taken.candidates.items kept wanted joined order of.is_state.names c.in_ok-kept.ensures.kept c.wanted_by-wanted.ensures.prepared
+    (shown-is state taken.prepared.now taken.candidates.items kept wanted joined order c.in_ok-kept.ensures.kept c.wanted_by-wanted.ensures.prepared
     c.wanted_by-wanted.ensures.limit c.wanted_by-wanted.ensures.view joins taken.version taken.documents taken.count of.version of.documents
     (subst (λ (r : Request). taken.count ≡ length (candidates_of state r.pattern.line)) (sym of.prepared) of.count)))) c.with_counts.ensures.shown

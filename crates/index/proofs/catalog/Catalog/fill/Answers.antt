@@ -1,0 +1,7 @@
+use Rattle.index.proofs.IndexLemmas.{IsIndex-room}
+use Rattle.index.proofs.catalog.Catalog.fill.Goals as goal
+
+pub invariant_of-self : goal.invariant_of-self
+invariant_of-self g c =
+    IsIndex-room c.self.inside.version c.self.inside.numbers c.self.inside.store c.fill.new.self c.self.invariant c.fill.ensures.documents
+    (c.fill.ensures.store c.self.inside.version c.self.invariant.kept)

@@ -1,0 +1,25 @@
+use Rattle.std.proofs.Common.{◌+◌, ◌∙◌, sym, ap}
+use Rattle.index.specs.Private.Numbered.{without_under}
+use Rattle.index.specs.Private.Numbered.{State, state}
+use Rattle.index.proofs.RemovedLemmas.{still_without, all_stay}
+use Rattle.index.proofs.catalog.Catalog.remove_under.Goals as goal
+
+pub loop-preserved : goal.loop-preserved
+loop-preserved c =
+    let taken = c.take_one_under.ensures.taken c.loop-test.true in
+    let text = c.args.prefix.now in
+    record {
+      version = ap (λ s. s.version) taken.left ∙ c.loop.invariant.version;
+      same =
+          ap (λ s. without_under text s.documents) taken.left
+          ∙ (still_without text taken.name c.loop.self.documents taken.begins ∙ c.loop.invariant.same);
+    }
+
+pub returns-clause-ok : goal.returns-clause-ok
+returns-clause-ok c =
+    let text = c.args.prefix.now in
+    let none = c.take_one_under.ensures.none c.loop-test.false in
+    let later : State → State = λ s. state (s.version + 1) s.documents in
+    ap later (c.self.view_is ∙ none.0)
+    ∙ (ap (λ v. state (v + 1) c.loop.self.documents) c.loop.invariant.version
+    ∙ ap (state (c.args.self.now.version + 1)) (sym (all_stay text c.loop.self.documents none.1) ∙ c.loop.invariant.same))

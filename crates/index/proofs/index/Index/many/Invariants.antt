@@ -1,6 +1,0 @@
-use Rattle.index.specs.Shared.{documents_shared}
-use Rattle.index.proofs.PrefixLemmas.{AreUnderFirst}
-use Rattle.index.proofs.index.Index.many.Given as goal
-
-abbrev pub invariant-loop-prefix : goal.invariant-loop-prefix
-invariant-loop-prefix l = AreUnderFirst l.most l.self.documents l.chosen.members l.prefix-items l.prefix-index (documents_shared l.shared.items)

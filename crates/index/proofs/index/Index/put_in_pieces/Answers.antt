@@ -1,0 +1,15 @@
+use Rattle.std.proofs.Common.{ap, arith}
+use Rattle.index.specs.declared.command.Command.TheVariants.{Put}
+use Rattle.index.proofs.PlainLemmas.{carried_out, refused}
+use Rattle.index.proofs.index.Index.put_in_pieces.Goals as goal
+
+pub put_in_pieces-requires : goal.put_in_pieces-requires
+put_in_pieces-requires c = omega (arith, c.requires, ap (λ s. s.version) c.self.view_is)
+
+pub returns-clause-ok : goal.returns-clause-ok
+returns-clause-ok c =
+    carried_out c.put_in_pieces.result (Put c.args.name.now c.args.held.now) c.self.inside.catalog c.put_in_pieces.new.self c.args.self.now c.self.view_is
+    c.put_in_pieces.ensures.ok
+
+pub returns-clause-err : goal.returns-clause-err
+returns-clause-err c = refused c.put_in_pieces.result c.self.inside.catalog c.put_in_pieces.new.self c.args.self.now c.self.view_is c.put_in_pieces.ensures.err
