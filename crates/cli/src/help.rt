@@ -41,7 +41,8 @@ A script is a list of lines:
   isearch ERE, isearchin NAMES ERE
                       do the same with the case of letters ignored in ERE
   find OPTIONS -- ERE searches with options as grep has them: -i -F -w -x -v -m N -l -c -q -C N,
-                      and -n NAMES, -N NAMES, -I, --column, --spans and -Z
+                      and -n NAMES, -N NAMES, -I, --column, --spans, -Z, --under PREFIX,
+                      --not-under PREFIX and --lane WORD
   sync                waits until the searches before it are answered
   cancel K            gives up search K, if it has no answer yet
   status              shows the version, documents, bytes, commands and open searches
