@@ -162,6 +162,10 @@ class Clusters(unittest.IsolatedAsyncioTestCase):
                 refreshed = await kept.refresh()
                 self.assertEqual((refreshed.left_out, kept.left_out), ([(b"2", "line too long")], {b"2": "line too long"}))
                 self.assertEqual([hit[:3:2] for hit in await cluster.find("", names="^a/")], [(b"a/1", b"new"), (b"a/3", b"newer"), (b"a/4", b"old")])
+                # those of others are left to the next publish that tells
+                await cluster.put("bad", b"\0")
+                self.assertEqual((await cluster.publish(tells=False)).refused, ())
+                self.assertEqual([one.name for one in (await cluster.publish()).refused], [b"bad"])
 
     async def test_the_names_of_a_lane(self) -> None:
         """Those under a prefix are the same, whatever has come and gone before."""

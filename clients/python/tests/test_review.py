@@ -187,6 +187,41 @@ class Reviews(unittest.TestCase):
 
         asyncio.run(run())
 
+    def test_refusals(self) -> None:
+        """Those of a review are told by it alone, and those of others by the next publish, whatever comes between."""
+        made = self.made
+        made.commit("main", {b"a": b"one\n", b"b": b"one\n"})
+        made.commit("topic", {b"a": b"x" * 20_000 + b"\n", b"b": b"two\n"}, start="main")
+        bad, left_out = [(b"bad", "byte 0 in body")], {b"+:a": "line too long"}
+
+        def told(published: tsearch.Published) -> list[tuple[bytes, str]]:
+            return [(one.name, one.reason) for one in published.refused]
+
+        with tsearch.Session(max_line=None) as session:
+            session.put("bad", b"\0")
+            with Review(session, made.path, "main", "topic") as review:
+                self.assertEqual(review.left_out, left_out)
+                self.assertEqual(told(session.publish()), bad)
+                session.put("bad", b"\0")
+            self.assertEqual((told(session.publish()), session.status().documents), (bad, 0))
+            review = Review(session, made.path, "main", "topic")
+            session.kill()
+            session.restart(lambda changes: changes.put("other", "one"))
+            session.put("bad", b"\0")
+            review.close()  # of what the new program has not
+            self.assertEqual((told(session.publish()), session.status().documents), (bad, 1))
+
+        async def run() -> None:
+            async with aio.Session.started(max_line=None) as session:
+                await session.put("bad", b"\0")
+                async with await aio.Review.open(session, made.path, "main", "topic") as review:
+                    self.assertEqual(review.patch.left_out, left_out)
+                    self.assertEqual(told(await session.publish()), bad)
+                    await session.put("bad", b"\0")
+                self.assertEqual((told(await session.publish()), (await session.status()).documents), (bad, 0))
+
+        asyncio.run(run())
+
     def test_a_program_that_is_started_again(self) -> None:
         made = self.made
         made.commit("main", {b"a": b"one\n"})

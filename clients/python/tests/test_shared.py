@@ -716,7 +716,7 @@ class Told:
     async def put(self, name: bytes, body: bytes) -> None:
         self.documents[name] = body
 
-    async def publish(self) -> Published:
+    async def publish(self, *, tells: bool = True) -> Published:
         return Published(1, 1, len(self.documents), 0, 0, 0, 0)
 
     def changes(self, refusals: list) -> Told:
@@ -786,6 +786,16 @@ class Keeping(unittest.IsolatedAsyncioTestCase):
                 self.assertEqual((await session.find("old", names="^a/", names_only=True)).names(), names)
                 self.assertEqual(kept.totals[0], len(names) + (text == "mended"))
                 self.assertEqual((await session.status()).documents, kept.totals[0] + 1)
+                # changes of others are told too, also where it takes two publishes
+                await session.put("bad", b"\0")
+                (top / "a/2").write_text(long)
+                refreshed = await kept.refresh()
+                self.assertEqual([one.name for one in refreshed.published.refused], [b"a/2", b"bad"])
+                self.assertEqual((await session.find("old", names="^a/", names_only=True)).names(), names[1:])
+                # and left to those who ask for them where a source goes
+                await session.put("bad", b"\0")
+                await other.drop()
+                self.assertEqual([one.name for one in (await session.publish()).refused], [b"bad"])
                 # what was refused is tried again once it has changed
                 (top / "a/15").write_text("old\n")
                 await kept.refresh()
@@ -825,6 +835,12 @@ class Keeping(unittest.IsolatedAsyncioTestCase):
             refreshed = kept.refresh()
             self.assertEqual([(one.name, one.reason) for one in refreshed.published.refused], [(b"bad", "byte 0 in body")])
             self.assertEqual((kept.left_out, len(session.find("", names="^a/"))), ({b"1": "line too long"}, 1))
+            # also where it takes two publishes
+            session.put("bad", b"\0")
+            (top / "a/2").write_text("z" * 20_000)
+            refreshed = kept.refresh()
+            self.assertEqual([(one.name, one.reason) for one in refreshed.published.refused], [(b"a/2", "line too long"), (b"bad", "byte 0 in body")])
+            self.assertEqual([hit.name for hit in session.find("")], [])
 
     async def test_a_session_that_another_one_has_started_again(self) -> None:
         """Each source sends all that it has at its next look. What is dropped is removed."""

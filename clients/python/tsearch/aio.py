@@ -374,10 +374,10 @@ class Session(Changes):
         process = self._connection.process
         return None if process is None else process.pid
 
-    async def publish(self) -> Published:
-        """Lets searches see all changes so far, and returns once they do, with what was refused since the publish before.
-        `PublishRefused` if there is no memory."""
-        return await _published(self._connection)
+    async def publish(self, *, tells: bool = True) -> Published:
+        """Lets searches see all changes so far, and returns once they do, with what was refused since the publish before. Without `tells`
+        that is left to the next publish. `PublishRefused` if there is no memory."""
+        return await _published(self._connection, tells)
 
     async def status(self) -> Status:
         """What the session holds. It waits for no search."""
@@ -486,9 +486,9 @@ async def _asked(connection: _Connection) -> asyncio.Future[Any]:
     return future
 
 
-async def _published(connection: _Connection) -> Published:
+async def _published(connection: _Connection, tells: bool = True) -> Published:
     def make(core: Core) -> tuple[tuple[Sent, asyncio.Future[Any]], list[bytes]]:
-        publish, status, parts = core.publish()
+        publish, status, parts = core.publish(tells)
         return (publish, _future_of(status)), parts
 
     publish, future = await connection.send(make)
@@ -586,7 +586,7 @@ class Kept:
         try:
             published = await self._publish_once()
             if await self._take_refusals(changes):
-                published = await self._publish_once()
+                published = published.before(await self._publish_once())
             return published
         finally:
             self.settled.set()
@@ -616,10 +616,10 @@ class Kept:
 
     async def _remove_some(self, steps: list[Step]) -> None:
         async with self._session.feeding:
-            changes = _changes_of(self._session)
+            changes = _changes_of(self._session, [])
             for step in steps:
                 await _remove(changes, step)
-            await self._session.publish()
+            await self._session.publish(tells=False)
 
     async def restart(self) -> Published | None:
         """Starts the program again if it has ended, and sends all documents. For a session with this source alone. None if the program
@@ -630,7 +630,7 @@ class Kept:
                 self._is_pending = False
                 published = dataclasses.replace(published, refused=(*self._refused, *published.refused))
                 if await self._take_refusals(_changes_of(self._session, self._refused)):
-                    await self._publish_once()
+                    published = published.before(await self._publish_once())
             return published
 
     async def find(self, pattern: str | bytes, **options: Unpack[Options]) -> Answer:
@@ -783,19 +783,20 @@ class Review:
     async def _fill(self) -> None:
         """Puts the documents. Copies of revisions that the session has would have their place here."""
         documents = self.patch.documents()
+        refused: list[ChangeRefused] = []
         async with self._session.feeding:
-            changes = _changes_of(self._session)
+            changes = _changes_of(self._session, refused)
             if self.published and self.published.life == changes.life:
                 return  # another search has done it
             while batch := await asyncio.to_thread(lambda: list(itertools.islice(documents, BATCH))):
                 for name, body in batch:
                     self._held.add(name)
                     await changes.put(self._prefix + name, body)
-            published = await self._session.publish()
+            published = await self._session.publish(tells=False)
             if published.life != changes.life:
                 raise Ended(None)  # that to which they were sent
             self.published = published
-        self._held -= refused_in(self.patch, self._prefix, published.refused)
+        self._held -= refused_in(self.patch, self._prefix, refused)
 
     async def find(self, pattern: str | bytes, *, sees: Callable[[bytes], bool] | None = None, **options: Unpack[Options]) -> Found:
         """The lines with a match, as `tsearch.review.Review.find` gives them, with its errors."""
@@ -817,12 +818,13 @@ class Review:
         self._is_closed = True
         async with self._session.feeding:
             held, self._held = self._held, set()
+            changes = _changes_of(self._session, [])
             if held and self._has_own:
-                await self._session.remove_under(self._prefix)
+                await changes.remove_under(self._prefix)
             for name in () if self._has_own else held:
-                await self._session.remove(self._prefix + name)
+                await changes.remove(self._prefix + name)
             if held:
-                await self._session.publish()
+                await self._session.publish(tells=False)
 
     async def __aenter__(self) -> Review:
         return self

@@ -193,3 +193,7 @@ class Published(Status):
     `Folder` or another source has sent are told to it alone."""
 
     refused: tuple[ChangeRefused, ...] = ()
+
+    def before(self, later: Published) -> Published:
+        """A later one, with what was refused before this one too."""
+        return dataclasses.replace(later, refused=(*self.refused, *later.refused))

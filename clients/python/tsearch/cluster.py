@@ -555,9 +555,10 @@ class Cluster(Changes):
         """What changes the same documents, with a list for what is refused of these changes."""
         return Changes(self._lanes, refusals)
 
-    async def publish(self) -> Published:
+    async def publish(self, *, tells: bool = True) -> Published:
         """Lets searches see all changes so far, and gives what is published then, with the changes that were refused since the last publish
-        that has told its own. `ShardLost` if a shard could not be made again, and `Ended` if the cluster is closed."""
+        that has told its own. Without `tells` they are left to the next publish. `ShardLost` if a shard could not be made again, and `Ended`
+        if the cluster is closed."""
         self._version += 1
         version = self._version
         futures = [lane.send(_Publish()) for lane in self._lanes]
@@ -567,8 +568,9 @@ class Cluster(Changes):
             told = [future.result() for future in futures if future.done() and not future.cancelled()]
             self._untold += [refusal for outcome in told if isinstance(outcome, list) for refusal in outcome]
             raise
-        refused, self._untold = (*self._untold, *itertools.chain(*outcomes)), []
-        return self._published(version, refused)
+        refused = (*self._untold, *itertools.chain(*outcomes))
+        self._untold = [] if tells else list(refused)
+        return self._published(version, refused if tells else ())
 
     async def status(self) -> Status:
         """What is published."""

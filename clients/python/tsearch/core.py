@@ -144,11 +144,12 @@ class Core:
         """A remove of all documents whose names begin with the prefix. `ChangeRefused` at once for a prefix that is a bad name."""
         return self._item(to_bytes(prefix), [b"removeunder %s\n" % checked(prefix)])
 
-    def publish(self) -> tuple[Sent, Sent, list[bytes]]:
-        """A publish and a status behind it, by which the publish and all before it are known to be carried out."""
+    def publish(self, tells: bool = True) -> tuple[Sent, Sent, list[bytes]]:
+        """A publish and a status behind it, by which the publish and all before it are known to be carried out. Without `tells` the next
+        one that tells has what was refused."""
         publish, first = self._item(None, [b"publish\n"])
         status, second = self._item(None, [b"status\n"])
-        status.publish = publish
+        status.publish = publish if tells else None
         return publish, status, first + second
 
     def status(self) -> tuple[Sent, list[bytes]]:

@@ -451,7 +451,7 @@ class Kept:
                 self._is_pending = False
                 published = self._with_own(published)
                 if self._take_refusals(Changes(self._session._connection, self._refused)):
-                    self._publish_once()
+                    published = published.before(self._publish_once())
             return published
 
     def feed(self, changes: Changes) -> None:
@@ -508,7 +508,7 @@ class Kept:
 
     def _publish(self, changes: Changes) -> Published:
         published = self._publish_once()
-        return self._publish_once() if self._take_refusals(changes) else published
+        return published.before(self._publish_once()) if self._take_refusals(changes) else published
 
     def _publish_once(self) -> Published:
         published = self._session.publish()

@@ -20,13 +20,13 @@ from typing import NamedTuple, Unpack
 
 from .answers import Answer, Hit
 from .core import after_line
-from .errors import ChangeRefused, Error
+from .errors import ChangeRefused, Ended, Error
 from .folder import called, text_body
 from .git import FILE_KINDS, Entry, Store, reason_of
 from .names import quote, to_bytes
 from .paths import check, under
 from .query import Options, Query
-from .session import Session
+from .session import Changes, Session
 from .tgrep import ere
 
 ADDED, REMOVED, LEFT = "+", "-", " "
@@ -325,13 +325,17 @@ class Review:
 
     def _fill(self) -> None:
         """Puts the documents. Copies of revisions that the session has would have their place here."""
+        refused: list[ChangeRefused] = []
         with self._session.feeding:
+            changes = Changes(self._session._connection, refused)
             for name, body in self._patch.documents():
-                self._session.put(self._prefix + name, body)
+                changes.put(self._prefix + name, body)
                 self._held.add(name)
-            published = self._session.publish()
+            published = self._session.publish(tells=False)
+            if published.life != changes.life:
+                raise Ended(None)  # that to which they were sent
         self._life = published.life
-        self._held -= refused_in(self._patch, self._prefix, published.refused)
+        self._held -= refused_in(self._patch, self._prefix, refused)
 
     @property
     def left_out(self) -> dict[bytes, str]:
@@ -363,13 +367,14 @@ class Review:
     def close(self) -> None:
         """Removes the documents. A second call does nothing."""
         with self._session.feeding:
+            changes = Changes(self._session._connection, [])
             if self._held and self._has_own:
-                self._session.remove_under(self._prefix)
+                changes.remove_under(self._prefix)
             for name in () if self._has_own else self._held:
-                self._session.remove(self._prefix + name)
+                changes.remove(self._prefix + name)
             if self._held:
                 self._held.clear()
-                self._session.publish()
+                self._session.publish(tells=False)
 
     def __enter__(self) -> Review:
         return self
@@ -379,11 +384,10 @@ class Review:
 
 
 def refused_in(patch: Patch, prefix: bytes, refused: Iterable[ChangeRefused]) -> set[bytes]:
-    """Takes what a publish says was refused, and gives the names without the prefix."""
+    """Takes what was refused of a review's documents, and gives the names without the prefix."""
     names = set()
     for refusal in refused:
-        if refusal.name.startswith(prefix):
-            name = refusal.name.removeprefix(prefix)
-            patch.left_out[name] = called(refusal.reason)
-            names.add(name)
+        name = refusal.name.removeprefix(prefix)
+        patch.left_out[name] = called(refusal.reason)
+        names.add(name)
     return names

@@ -520,11 +520,11 @@ class Session(Changes):
         process = self._connection.process
         return None if process is None else process.pid
 
-    def publish(self, timeout: float | None = None) -> Published:
-        """Lets searches see all changes so far, and returns once they do, with what was refused since the publish before.
-        `PublishRefused` if there is no memory, and `TimeoutError` if it takes longer than `timeout`: then the publish is carried out all
-        the same."""
-        return _publish(self._connection, _deadline(timeout))
+    def publish(self, timeout: float | None = None, *, tells: bool = True) -> Published:
+        """Lets searches see all changes so far, and returns once they do, with what was refused since the publish before. Without `tells`
+        that is left to the next publish. `PublishRefused` if there is no memory, and `TimeoutError` if it takes longer than `timeout`: then
+        the publish is carried out all the same."""
+        return _publish(self._connection, _deadline(timeout), tells)
 
     def status(self, timeout: float | None = None) -> Status:
         """What the session holds. It waits for no search. `TimeoutError` if it does not come in `timeout`."""
@@ -687,9 +687,9 @@ def _asked(connection: _Connection, deadline: float | None) -> Future[Any]:
     return future
 
 
-def _publish(connection: _Connection, deadline: float | None) -> Published:
+def _publish(connection: _Connection, deadline: float | None, tells: bool = True) -> Published:
     def make(core: Core) -> tuple[tuple[Sent, Future[Any]], list[bytes]]:
-        publish, status, parts = core.publish()
+        publish, status, parts = core.publish(tells)
         return (publish, _future_of(status)), parts
 
     publish, future = connection.send(make, deadline)
