@@ -47,9 +47,9 @@ class Place:
         """The status and what a call writes."""
         return run(words, self.top, self.environment, **how)
 
-    def wants(self, words, status, shown, said=None):
+    def wants(self, words, status, shown, said=None, **how):
         """`Wrong` if a call does not come out so. Without `said` standard error is not looked at."""
-        found = self.call(*words)
+        found = self.call(*words, **how)
         if found[:2] != (status, shown) or (said is not None and said not in found[2]):
             raise Wrong(f"{words}: {found}, and not {status, shown, said}")
 
@@ -398,6 +398,37 @@ def a_version_that_differs_restarts_it(place):
     place.wants(["foo"], 0, b"a:1:foo\n")
     if place.server == server:
         raise Wrong("it is the same server")
+
+
+def a_program_that_is_named_wrongly(place):
+    """What the variable TSEARCH names is found from the working folder, as a command too; what cannot be run is named."""
+    place.write("a", b"foo\n")
+    place.write("script", b"")
+    place.call("--stop")
+    for named, why in ("/none/tsearch", "is not there"), ("./script", "may not be executed"), (str(place.top), "is a folder"), ("none", "is not there"):
+        place.environment["TSEARCH"] = named
+        shown = str(place.top / named) if named.startswith(".") else named
+        for words in ["foo"], ["foo", "a"]:
+            place.wants(words, 2, b"", f"tgrep: the variable TSEARCH names {shown}, which {why}\n".encode())
+        for words, given in (["--no-server", "foo"], None), (["foo"], b"foo\n"):
+            place.wants(words, 2, b"", f"tgrep: the variable TSEARCH names {named}, which {why}\n".encode(), given=given)
+    place.write("script", b"none\n")
+    os.chmod(place.top / "script", 0o700)
+    place.environment["TSEARCH"] = str(place.top / "script")
+    place.wants(["foo"], 2, b"", f"tgrep: [Errno 8] Exec format error: '{place.top}/script'\n".encode())
+    place.wants(["foo"], 2, b"", f"tgrep: {place.top}/script: Exec format error\n".encode(), given=b"foo\n")
+    os.unlink(place.top / "script")
+    bin = pathlib.Path(place.environment["HOME"], "bin")
+    bin.mkdir()
+    shutil.copy(place.program, bin / "own-tsearch")
+    place.environment["PATH"] = f"{bin}:{os.environ['PATH']}"
+    servers = set()
+    for named in str(bin / "own-tsearch"), os.path.relpath(bin / "own-tsearch", place.top), "own-tsearch":
+        place.environment["TSEARCH"] = named
+        place.wants(["foo"], 0, b"a:1:foo\n")
+        servers.add(place.server)
+    if len(servers) != 1:
+        raise Wrong("there is a server for each name")
 
 
 def first_calls_at_once_make_one_server(place):
@@ -799,6 +830,7 @@ TESTS = [
     a_server_ends_when_it_should,
     another_folder_of_the_same_name,
     a_version_that_differs_restarts_it,
+    a_program_that_is_named_wrongly,
     first_calls_at_once_make_one_server,
     others_are_kept_out,
     a_full_disk,

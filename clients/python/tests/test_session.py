@@ -1,6 +1,7 @@
 """The session for threads: answers against a plain model, kills, refusals, slow programs and slow readers."""
 
 import os
+import pathlib
 import pickle
 import random
 import signal
@@ -12,10 +13,12 @@ import threading
 import time
 import tracemalloc
 import unittest
+import unittest.mock
 
 from helpers import SECONDS, SLOW, Model, hits_of, plain, shown, slow_documents, stand_in, state_of, stop, stopped, until
 
 import tsearch
+from tsearch.program import main as run_program
 from tsearch.query import document_pattern
 
 
@@ -592,6 +595,17 @@ class Ends(unittest.TestCase):
             for _ in range(10):
                 session.restart(lambda changes: changes.put("a", "x"), only_if_ended=False)
             until(lambda: descriptors() <= before)
+
+    def test_what_the_variable_names(self) -> None:
+        with tempfile.TemporaryDirectory() as name:
+            file = pathlib.Path(name, "file")
+            file.write_bytes(b"")
+            for path, why in ("/nothing/here", "is not there"), (name, "is a folder"), (str(file), "may not be executed"):
+                with self.subTest(path=path), unittest.mock.patch.dict(os.environ, {"TSEARCH": path}):
+                    for call in tsearch.find_program, tsearch.Session, run_program:
+                        with self.assertRaises((tsearch.Error, SystemExit)) as raised:
+                            call()
+                        self.assertIn(f"the variable TSEARCH names {path}, which {why}", str(raised.exception))
 
     def test_a_program_that_is_none(self) -> None:
         self.assertRaises(OSError, tsearch.Session, "/nothing/here")

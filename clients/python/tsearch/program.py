@@ -25,11 +25,19 @@ _NONE = "there is no program: set TSEARCH to its path, or build it in the reposi
 def find_program() -> str:
     """The path of the program: that of the variable TSEARCH; else that which the package brings along; else that of the repository in
     which this package lies, whose first call compiles it, in some minutes; else the command `tsearch` on the PATH. `Error` if there is
-    none."""
-    found = os.environ.get("TSEARCH") or _own_program() or shutil.which("tsearch")
+    none, or TSEARCH names what cannot be run."""
+    found = _named_program() or _own_program() or shutil.which("tsearch")
     if not found:
         raise Error(_NONE)
     return found
+
+
+def _named_program() -> str | None:
+    named = os.environ.get("TSEARCH")
+    if named and shutil.which(named) is None:
+        why = "is not there" if not os.path.exists(named) else "is a folder" if os.path.isdir(named) else "may not be executed"
+        raise Error(f"the variable TSEARCH names {named}, which {why}")
+    return named
 
 
 def _own_program() -> str | None:
@@ -40,10 +48,16 @@ def _own_program() -> str | None:
 
 def main() -> None:
     """The command `tsearch` of the package: the program that it brings along, with the same words."""
-    own = os.environ.get("TSEARCH") or _own_program()
+    try:
+        own = _named_program() or _own_program()
+    except Error as error:
+        sys.exit(f"tsearch: {error}")
     if own is None:
         sys.exit(f"tsearch: {_NONE}")
-    os.execv(own, ["tsearch", *sys.argv[1:]])
+    try:
+        os.execvp(own, ["tsearch", *sys.argv[1:]])
+    except OSError as error:
+        sys.exit(f"tsearch: {own}: {error.strerror}")
 
 
 def kill_group(process: int) -> None:

@@ -59,7 +59,8 @@ class _Alone:
                 return await self._aside.add_file(typed, typed)
         except OSError as error:
             self._has_failed = True
-            self._terminal.say(f"{typed}: {error.strerror}")
+            # it may be the program that cannot be started
+            self._terminal.say(f"{error.filename or typed}: {error.strerror}")
             return []
         tree = Tree(real, self._request["mode"], self._terminal.error, watches=False)
         self._trees.append(tree)

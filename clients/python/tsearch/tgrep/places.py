@@ -77,12 +77,16 @@ def socket_of(folder, root, mode):
 
 
 def program_words():
-    """The program, if its place is known without a search: that of TSEARCH, that which the package brings along, or that of the
-    repository. It is found again where it is started (`tsearch.program`)."""
+    """The program, if its place is known without a search: that of TSEARCH, as it is from the working folder, that which the package
+    brings along, or that of the repository. It is found again where it is started (`tsearch.program`)."""
     beside = os.path.dirname(os.path.dirname(os.path.dirname(_PACKAGE)))
     named = os.environ.get("TSEARCH")
+    if named and os.sep in named:
+        return os.path.abspath(named)
     if named:
-        return named
+        import shutil  # which is slow to import
+
+        return shutil.which(named) or named
     brought = os.path.join(_PACKAGE, "built", "tsearch")
     return brought if os.path.exists(brought) else os.path.join(beside, "out", "current", "tsearch")
 

@@ -162,8 +162,10 @@ def main(words: list[str] | None = None) -> None:
     logger.propagate = False
     try:
         asyncio.run(_serve(given.host, given.port, settings))
+    except Error as error:
+        sys.exit(f"tsearch.web: {error}")
     except OSError as error:
-        sys.exit(f"tsearch.web: {given.host} {given.port}: {error.strerror or error}")
+        sys.exit(f"tsearch.web: {error.filename or f'{given.host} {given.port}'}: {error.strerror or error}")
 
 
 if __name__ == "__main__":
