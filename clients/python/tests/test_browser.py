@@ -60,6 +60,17 @@ class Page(Browsing):
         self.wait(lambda: [row[2] for row in self.shown()] == ["    return call(1);"])
         self.assertTrue(self.one("#literal").is_selected())
 
+    def test_a_repository_that_is_not_there(self) -> None:
+        """An address may name one. It is left out once something else is asked for."""
+        self.open("/?q=int+main&repository=none")
+        self.wait(lambda: self.one("#status").text == "The search is given up: there is no repository none.")
+        self.open("/?q=int+main&repository=none&repository=one")
+        self.wait(lambda: len(self.shown()) == 1)
+        self.assertIn("No answer from none.", self.one("#status").text)
+        self.one("#repositories label:nth-child(1)").click()
+        self.wait(lambda: len(self.shown()) == 2)
+        self.assertNotIn("none", self.one("#status").text + self.browser.current_url)
+
     def test_context(self) -> None:
         """One line around each hit, or as many as are chosen; gaps between what does not touch."""
         self.type("many lines 1?7$")

@@ -14,7 +14,9 @@ import socket
 import time
 import unittest
 import unittest.mock
+import urllib.error
 import urllib.parse
+import urllib.request
 
 from helpers import SECONDS, SLOW, stopped, until
 from serving import DOCUMENTS, MARKUP, serving
@@ -109,6 +111,31 @@ class Web(unittest.TestCase):
         self.assertEqual(find("é[z-a]"), [{"refused": "bad range", "offset": 4, "in": "pattern"}])
         self.assertEqual(self.server.get("/api/find?q=(")[0], 400)
         self.assertEqual(len(self.server.hits("int main")), 2)
+
+    def test_repositories_that_are_not_there(self) -> None:
+        server, refused = self.server, {"refused": "there is no repository none"}
+        for path in "find?q=int", "find?q=int&repository=none", "count?q=int", "review?q=int&before=a&after=b", "file?name=src/main.c":
+            with self.subTest(path=path):
+                status, body, _ = server.get(f"/api/{path}&repository=none")
+                self.assertEqual((status, json.loads(body)), (404, refused))
+        # one of several is named
+        rows = server.find("int main", repository=["none", "one", "\udcff"])
+        self.assertEqual([row["name"] for row in rows if "hits" in row], ["src/main.c"])
+        faults = [("none", "there is no repository none"), ("\ufffd", "there is no repository \ufffd")]
+        self.assertEqual([(row["repository"], row["fault"]) for row in rows if "fault" in row], faults)
+        self.assertEqual((rows[-1]["lines"], rows[-1]["missing"]), (1, ["none", "\ufffd"]))
+        self.assertEqual(json.loads(server.get("/api/count?q=int&repository=one&repository=none")[1]), {"counts": {"one": 2}})
+        # an empty name is that of none
+        self.assertEqual(len(server.hits("int main", repository="")), 2)
+        for name, status in ("none", 404), ("one", 204), ("", 204):
+            request = urllib.request.Request(f"{server.address}/api/look?repository={name}", method="POST")
+            try:
+                with urllib.request.urlopen(request, timeout=SECONDS) as answer:
+                    found = answer.status
+            except urllib.error.HTTPError as error:
+                with error:
+                    found = error.code
+            self.assertEqual(found, status, name)
 
     def test_hostile_names_and_bodies(self) -> None:
         rows = self.server.find("hostile")
@@ -302,7 +329,11 @@ class Filters(unittest.TestCase):
             place = f"life=1&version={version}"
             self.assertEqual(ask(f"/api/file?repository=one&{place}&name=src/util.c")[0], 200)
             for file in "repository=one&name=src/main.c", "repository=one&name=many.txt", "repository=two&name=src/main.c":
-                self.assertIn(ask(f"/api/file?{file}&{place}")[0], (400, 410), file)
+                self.assertIn(ask(f"/api/file?{file}&{place}")[0], (404, 410), file)
+            # one that may not be seen is not told apart from one that is not there
+            for path in "find?q=int", f"file?name=src/main.c&{place}":
+                refusals = [ask(f"/api/{path}&repository={name}")[1][0]["refused"].replace(name, "") for name in ("two", "none")]
+                self.assertEqual(refusals, ["there is no repository "] * 2)
             self.assertEqual([one["repository"] for one in ask("/api/status")[1][0]["repositories"]], ["one"])
             # nothing without the header, and nothing with one that is not understood
             self.assertEqual(ask("/api/find?q=int", None)[1][0]["lines"], 0)

@@ -18,6 +18,8 @@ const OF_FILE = ["of", "file", "commit", "life", "version", "lines"];
 const TURNING = /[\u061c\u200e\u200f\u202a-\u202e\u2066-\u2069]/;
 
 let running = null, turn = 0, searched = "", served = [], shownFile = null, counting = 0, viewed = 0;
+// Repositories that the address of the page names and that are not served: the answer says so, until something else is asked for.
+let strange = [];
 // Of the answer that is shown: its documents by repository and id, and the lines of each repository.
 let found = new Map(), heads = new Map();
 
@@ -45,7 +47,7 @@ function write(into, text) {
 const counted = (number, what) => `${number.toLocaleString("en")} ${what}${number === 1 ? "" : "s"}`;
 
 function chosen() {
-  return [...document.querySelectorAll("#repositories input:checked")].map((box) => box.value);
+  return [...document.querySelectorAll("#repositories input:checked")].map((box) => box.value).concat(strange);
 }
 
 // The repository that is searched, if it is one.
@@ -476,6 +478,7 @@ function restore() {
   pattern.value = words.get("q") || "";
   for (const [word, box] of Object.entries(options)) box.checked = words.has(word);
   for (const box of document.querySelectorAll("#repositories input")) box.checked = words.getAll("repository").includes(box.value);
+  strange = words.getAll("repository").filter((name) => !served.some((one) => one.repository === name));
   showRevisions();
   for (const [word, field] of Object.entries(fields)) field.value = words.get(word) || "";
   context.value = Math.min(words.has("context") ? Number(words.get("context")) || 0 : 1, context.options.length - 1);
@@ -505,6 +508,7 @@ async function begin() {
     show("The server does not answer.");
   }
   const typed = () => {
+    strange = [];
     if (!pattern.value || [...pattern.value].length >= LEAST) search();
     else {
       if (running) running.abort();
@@ -516,6 +520,7 @@ async function begin() {
   context.addEventListener("change", search);
   at("form").addEventListener("change", (event) => {
     if (event.target.type !== "checkbox") return;
+    strange = [];
     showRevisions();
     search();
   });

@@ -59,8 +59,8 @@ _MOST_READERS = 16
 _LONGEST_LANE = 64
 # How often it is seen whether a visitor has gone, in seconds.
 _OFTEN = 0.2
-# A repository, the filter of the host, and what it answers or with what it fails.
-_Outcome = tuple[Repository, Filter, Any]
+# The name of a repository, the filter of the host, and what it answers or with what it fails.
+_Outcome = tuple[str, Filter, Any]
 _written = json.JSONEncoder(separators=(",", ":")).encode
 _OUTCOMES = ("answered", "refused", "too slow", "cancelled", "left", "ended", "too many")
 
@@ -99,7 +99,7 @@ class Asked:
         )
         return cls(
             query,
-            repositories=frozenset(words.get("repository", [])),
+            repositories=frozenset(word for word in words.get("repository", []) if word),
             revision=words.get("revision", [""])[-1],
             is_whole="whole" in words,
             visitor=words.get("visitor", [""])[-1],
@@ -392,13 +392,15 @@ class Server:
         self._running[asked.visitor] = asked.turn, task
 
     async def _outcomes_of(self, request: web.Request, asked: Asked, made: Callable[[Search], Awaitable[Sequence[Any]]]) -> list[_Outcome]:
-        """What each repository answers, or with what it fails."""
+        """What each repository answers, or with what it fails; so does one that is named and is not there, or may not be seen."""
         chosen = [(found, own) for found, own in self._seen_by(request) if not asked.repositories or found.name in asked.repositories]
+        strange = sorted(asked.repositories - {found.name for found, _ in chosen})
         query = dataclasses.replace(asked.query, lane=_lane_of(request))
         async with self._visitors.turn(_address_of(request)), self._turns:
             limits = self._settings.limits
             outcomes = await made(Search(self._shared, chosen, query, asked.revision, limits.search_ms, limits.answer))
-        return [(repository, own, outcome) for (repository, own), outcome in zip(chosen, outcomes, strict=True)]
+        told = [(repository.name, own, outcome) for (repository, own), outcome in zip(chosen, outcomes, strict=True)]
+        return told + [(name, Filter(), _no_repository(name)) for name in strange]
 
     async def _answer(self, request: web.Request, asked: Asked) -> web.StreamResponse:
         began = time.monotonic()
@@ -457,18 +459,18 @@ class Server:
         counts = [found.answer.count if isinstance(found, Found) else 0 for _, _, found in outcomes]
         lines, has_more, missing, waiting = 0, False, [], b""
         marks = marks_of(asked.query)
-        for (repository, _, found), share in zip(outcomes, shares(counts, asked.limit)):
+        for (name, _, found), share in zip(outcomes, shares(counts, asked.limit)):
             if isinstance(found, Exception):
-                missing.append(repository.name)
-                waiting += _json({"repository": repository.name, **self._fault(found)[1]})
+                missing.append(_as_text(name))
+                waiting += _json({"repository": _as_text(name), **self._fault(found)[1]})
                 continue
             answer = found.answer
             if answer.count > share:
                 answer = await _worked(answer, cut, answer, share, asked.query.context or 0)
             lines, has_more = lines + answer.count, has_more or answer.more
-            waiting += _json(_head_of(repository.name, found, answer))
+            waiting += _json(_head_of(name, found, answer))
             await asyncio.sleep(0)  # each has its share of the work on marks
-            blocks = blocks_of(answer, repository.name, asked.is_whole, found.start, marks)
+            blocks = blocks_of(answer, name, asked.is_whole, found.start, marks)
             while block := await _worked(answer, next, blocks, b""):
                 waiting += block
                 if len(waiting) > _WRITTEN:
@@ -484,14 +486,17 @@ class Server:
         refusal = self._refusal_of_all(outcomes, asked)
         if refusal is not None:
             return refusal
-        counts = {repository.name: found for repository, _, found in outcomes if isinstance(found, int)}
+        counts = {name: found for name, _, found in outcomes if isinstance(found, int)}
         return web.json_response({"counts": counts})
 
     async def _answer_review(self, request: web.Request, asked: Asked) -> web.StreamResponse:
         """The lines that a patch removes, adds and leaves, a line for each file, and one at the end."""
         words = {key: found[-1] for key, found in _words_of(request).items()}
         began = time.monotonic()
-        repository, own = self._one(request, words.get("repository", ""))
+        try:
+            repository, own = self._one(request, words.get("repository", ""))
+        except Gone as gone:
+            return self._refusal(gone)
         if not isinstance(repository, Objects):
             return self._refusal(Gone("there are no revisions of it"))
         async with self._visitors.turn(_address_of(request)), self._turns:
@@ -513,11 +518,13 @@ class Server:
         return web.Response(body=body, headers={"Content-Type": _LINES})
 
     def _one(self, request: web.Request, name: str) -> tuple[Repository, Filter]:
-        """The repository of a name, if it may be seen."""
+        """The repository of a name, if it may be seen: `Gone` if there is none."""
         seen = self._seen_by(request)
         found = next((pair for pair in seen if pair[0].name == name), None)
         if found is None and not name and len(seen) == 1:
             found = seen[0]
+        if found is None and name:
+            raise _no_repository(name)
         if found is None:
             raise web.HTTPBadRequest(text="give the repository")
         return found
@@ -529,7 +536,10 @@ class Server:
         numbers = [words.get(key, "") for key in ("life", "version")]
         if not words.get("name") or any(numbers) and not all(map(_is_number, numbers)):
             raise web.HTTPBadRequest(text="give the repository and the name, and where they are known the commit, or the life and the version")
-        repository, own = self._one(request, words.get("repository", ""))
+        try:
+            repository, own = self._one(request, words.get("repository", ""))
+        except Gone as gone:
+            return self._refusal(gone)
         name = to_bytes(words["name"])
         try:
             async with self._visitors.turn(_address_of(request)), self._turns, asyncio.timeout(self._settings.limits.search_ms / 1_000 + GRACE):
@@ -576,11 +586,14 @@ class Server:
         return web.json_response({"repositories": told, "lines": limits.lines, "context": limits.context, **more})
 
     async def _look(self, request: web.Request) -> web.Response:
-        """A hint that something has changed: a hook after a push sends it."""
+        """A hint that something has changed: a hook after a push sends it. Which repositories there are is told unless that is a matter of
+        who asks."""
         name = _words_of(request).get("repository", [""])[-1]
-        for repository in self._repositories:
-            if name in ("", repository.name):
-                repository.hint()
+        wanted = [repository for repository in self._repositories if name in ("", repository.name)]
+        for repository in wanted:
+            repository.hint()
+        if name and not wanted and self._settings.filters is None:
+            return web.json_response({"refused": str(_no_repository(name))}, status=404)
         return web.Response(status=204)
 
     async def _health(self, request: web.Request) -> web.Response:
@@ -689,6 +702,15 @@ def _parts(text: bytes, spans: Sequence[tuple[int, int]], is_whole: bool) -> dic
         parts += [_shown(text[at:begin]), _shown(text[begin:end])]
         at = end
     return {"parts": [*parts, _shown(text[at:])]}
+
+
+def _no_repository(name: str) -> Gone:
+    return Gone(f"there is no repository {_as_text(name)}")
+
+
+def _as_text(name: str) -> str:
+    """A word of an address as text for a page."""
+    return _shown(to_bytes(name))
 
 
 def _shown(data: bytes) -> str:
