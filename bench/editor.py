@@ -188,7 +188,7 @@ def typed(neovim):
         for letter in "return err":
             neovim.type(letter)
             time.sleep(0.15)
-        neovim.until(lambda: neovim.told().endswith("lines"), "an answer")
+        neovim.until(lambda: " line" in neovim.told(), "an answer")
         for _ in range(20):
             neovim.type("<C-n>")
             time.sleep(0.05)

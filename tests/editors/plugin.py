@@ -200,20 +200,20 @@ def a_killed_server_is_started_again(place):
     with place.neovim() as neovim:
         neovim.command(f"edit {name}")
         neovim.type("ggOa_kept_line<Esc>:Tgrep<CR>a_kept")
-        neovim.until(lambda: neovim.told() == "1 lines", "an unsaved line")
+        neovim.until(lambda: neovim.told() == "1 line", "an unsaved line")
         (lock,) = pathlib.Path(place.environment["XDG_RUNTIME_DIR"], "tgrep").glob("*.lock")
         server = int(lock.read_text(encoding="ascii"))
         for child in pathlib.Path(f"/proc/{server}/task/{server}/children").read_text(encoding="ascii").split():
             os.kill(int(child), signal.SIGKILL)
         neovim.type("_line")
-        neovim.until(lambda: neovim.told() == "1 lines" and neovim.lua("return require('tgrep.window').current().asked.pattern") == "a_kept_line",
+        neovim.until(lambda: neovim.told() == "1 line" and neovim.lua("return require('tgrep.window').current().asked.pattern") == "a_kept_line",
                      "the line without its program")
         os.kill(server, signal.SIGKILL)
         neovim.type("<BS>")
         neovim.until(lambda: rows_of(neovim) == [f"{name}:1:a_kept_line"] and neovim.lua("return require('tgrep.client').of().state") == "connected",
                      "the line with a new server")
         neovim.type("<BS>")
-        neovim.until(lambda: rows_of(neovim) == [f"{name}:1:a_kept_line"] and neovim.told() == "1 lines", "the line once more")
+        neovim.until(lambda: rows_of(neovim) == [f"{name}:1:a_kept_line"] and neovim.told() == "1 line", "the line once more")
 
 
 def a_large_buffer(place):
@@ -337,6 +337,7 @@ def a_file_that_another_editor_has_open_is_skipped(place):
         other.type("Aunsaved there<Esc>:preserve<CR>")
         neovim.type(":Tgrep open_elsewhere<CR>")
         neovim.until(lambda: len(neovim.quickfix()) == 1, "a list")
+        neovim.until(lambda: "tgrep: 1 line" in neovim.messages().splitlines(), "one line")
         neovim.command("cclose")
         neovim.type(":TgrepReplace x<CR>")
         neovim.until(lambda: neovim.lines()[0].startswith("# 1 line"), "a preview")

@@ -41,7 +41,9 @@ function M.check()
   end)
   vim.wait(20000, function() return told ~= nil or why ~= nil end, 20)
   if told then
-    ok(("the server of %s holds %d files with %d bytes"):format(require("tgrep.client").bytes(told.root), told.documents, told.bytes))
+    local count_of = require("tgrep.search").count_of
+    ok(("the server of %s holds %s with %s"):format(
+      require("tgrep.client").bytes(told.root), count_of(told.documents, "file"), count_of(told.bytes, "byte")))
     if told.unwatched then
       info("it looks through the folder, since " .. told.unwatched)
     end

@@ -59,12 +59,12 @@ end
 
 -- Says how much was found, and what could not be searched.
 function M.say_end(last)
-  local parts = { ("%d lines%s"):format(last.count, last.more and ", and there are more" or "") }
+  local parts = { search.count_of(last.count, "line") .. (last.more and ", and there are more" or "") }
   for _, one in ipairs(last.missing or {}) do
     parts[#parts + 1] = ("%s is not searched: %s"):format(bytes(one.name), one.reason)
   end
   if last.left_out then
-    parts[#parts + 1] = ("%d files are left out (tgrep --left-out)"):format(last.left_out)
+    parts[#parts + 1] = ("%s left out (tgrep --left-out)"):format(search.count_of(last.left_out, "file"))
   end
   search.say(table.concat(parts, "; "))
 end

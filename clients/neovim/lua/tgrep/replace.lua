@@ -6,6 +6,7 @@ local bytes = require("tgrep.client").bytes
 local buffers = require("tgrep.buffers")
 local config = require("tgrep.config")
 local search = require("tgrep.search")
+local count_of = search.count_of
 local space = api.nvim_create_namespace("tgrep-replace")
 
 -- The parts of a replacement: texts, and numbers of groups. With `\1` to `\9` there are groups, `\0` is the match, and `\\` a backslash.
@@ -58,10 +59,6 @@ function M.replaced(text, line, parts, has_groups)
   end
   done[#done + 1] = text:sub(at + 1)
   return table.concat(done)
-end
-
-local function count_of(number, what)
-  return ("%d %s%s"):format(number, what, number == 1 and "" or "s")
 end
 
 -- Shows what would change.

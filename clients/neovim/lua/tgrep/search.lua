@@ -75,6 +75,11 @@ function M.fault(fault)
   return fault.message .. place .. (fault.hint and ": " .. fault.hint or "")
 end
 
+-- A number and what there is of it: `1 line`, `2 lines`; with `more` there are more of them.
+function M.count_of(number, what, more)
+  return ("%d%s %s%s"):format(number, more and "+" or "", what, (number == 1 and not more) and "" or "s")
+end
+
 -- Says something in one line: a longer one would wait for a key.
 function M.say(text, group)
   local line = ("tgrep: " .. text):gsub("%c", " ")

@@ -258,8 +258,8 @@ function Window:again()
     if not has_shown then
       self:show_first({})
     end
-    local missing = last.missing and #last.missing > 0 and (", %d buffers are not searched"):format(#last.missing) or ""
-    self:tell(("%d%s lines%s"):format(last.count, last.more and "+" or "", missing))
+    local missing = last.missing and #last.missing > 0 and (", %s not searched"):format(search.count_of(#last.missing, "buffer")) or ""
+    self:tell(search.count_of(last.count, "line", last.more) .. missing)
     self:soon("preview", PREVIEW)
     if last.more and limit < config.window_lines then
       self:soon("rest", REST)
