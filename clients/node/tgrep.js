@@ -4,13 +4,14 @@
 //   const { documents, more } = await tgrep.find("malloc", { whole_words: true, units: "utf-16" });
 const { execFile } = require("node:child_process");
 const { EventEmitter } = require("node:events");
-const net = require("node:net");
+const [fs, net] = [require("node:fs"), require("node:net")];
 
 class Tgrep extends EventEmitter {
   static open(folder, command = "tgrep") {
     return new Promise((resolve, reject) => {
+      if (folder && !fs.statSync(folder, { throwIfNoEntry: false })?.isDirectory()) return reject(new Error(`${folder} is no folder`));
       execFile(command, ["--socket"], { cwd: folder }, (fault, out, said) => {
-        if (fault) return reject(new Error(said.trim() || fault.message));
+        if (fault || !out.startsWith("{")) return reject(new Error(said.trim() || fault?.message || `${command} is not tgrep`));
         const socket = net.connect(JSON.parse(out).socket, () => resolve(new Tgrep(socket)));
         socket.once("error", reject);
       });

@@ -169,6 +169,29 @@ const {{ Tgrep }} = require({json.dumps(str(NODE))});
         self.assertEqual(json.loads(first), [2, documents])
         self.assertEqual(rest, ["pattern 2", "the server has ended", '["c.c"]'])
 
+    def test_what_node_cannot_open(self) -> None:
+        """The folder or the command is named, and the reason that tgrep gives."""
+        self.write({b"a.c": b"foo\n"})
+        tgrep, top = str(TOP / "tgrep"), str(self.top)
+        calls = [[f"{top}/none", tgrep], [f"{top}/a.c", tgrep], [top, "/none/tgrep"], [top, "/bin/true"], [top, "/bin/false"], [top, tgrep]]
+        script = f"""
+const {{ Tgrep }} = require({json.dumps(str(NODE))});
+(async () => {{
+  for (const [folder, command] of {json.dumps(calls)}) {{
+    await Tgrep.open(folder, command).then((tgrep) => tgrep.find("foo")).catch((fault) => console.log(fault.message));
+  }}
+  process.exit();
+}})();
+"""
+        environment = {**os.environ, "TSEARCH": "/none/tsearch"}
+        done = subprocess.run(["node", "-e", script], cwd=self.top, env=environment, capture_output=True, check=False, timeout=60)
+        self.assertEqual(done.stderr, b"")
+        wanted = [
+            f"{top}/none is no folder", f"{top}/a.c is no folder", "spawn /none/tgrep ENOENT", "/bin/true is not tgrep",
+            "Command failed: /bin/false --socket", "the variable TSEARCH names /none/tsearch, which is not there",
+        ]  # fmt: skip
+        self.assertEqual([line for line in done.stdout.decode().splitlines() if line], wanted)
+
 
 class Sockets(Place):
     def test_where_the_socket_is(self) -> None:
