@@ -110,13 +110,17 @@ class Links(Hosted):
             ["", "3", "+", "int more;"], ["", "4", "+", "return x + more;"],
         ])  # fmt: skip
         self.assertEqual(self.one("#status").text, "1 removed, 3 added, 1 left, in 2 files of the patch.")
-        # each line opens on its side
-        for number, commit in (2, "main"), (3, "topic/x"):
+        # each line opens on its side, with the matches that the review has found there
+        def marks() -> list[str]:
+            return [mark.text for mark in self.all("#file-lines mark")]
+
+        for number, commit, wanted in (2, "main", ["x", "x"]), (3, "topic/x", ["x", "more", "x", "more"]):
             self.all("#results .row")[number].click()
             self.wait(lambda commit=commit: self.is_open() and self.words().get("commit") == self.made.git("rev-parse", commit))
-            self.assertEqual(self.targets(), ["3"])
+            self.assertEqual((self.targets(), marks()), (["3"], wanted))
         self.browser.refresh()
         self.wait(lambda: len(self.all("#results .row")) == 5)
+        self.wait(lambda: marks() == wanted)
         self.type("[", "#pattern")
         self.assertIn("bracket not closed", self.one("#fault").get_attribute("textContent"))
 

@@ -20,7 +20,7 @@ const TURNING = /[\u061c\u200e\u200f\u202a-\u202e\u2066-\u2069]/;
 let running = null, turn = 0, searched = "", served = [], shownFile = null, counting = 0, viewed = 0;
 // Repositories that the address of the page names and that are not served: the answer says so, until something else is asked for.
 let strange = [];
-// Of the answer that is shown: its documents by repository and id, and the lines of each repository.
+// Of the answer that is shown: the hits of each file of a state, and the lines of each repository.
 let found = new Map(), heads = new Map();
 
 function element(tag, className, text) {
@@ -134,9 +134,12 @@ function sectionOf(title, count) {
   return section;
 }
 
+// By which the hits of a file are found: its repository, its id, and the commit or the version.
+const keyOf = (file) => `${file.of}/${file.file}@${file.commit || file.version}`;
+
 function addDocument(document) {
   const head = heads.get(document.repository);
-  found.set(`${document.repository}/${document.id}`, document);
+  found.set(keyOf({ of: document.repository, file: document.id, commit: head.commit, version: head.version }), document.hits);
   const section = sectionOf(document.name, counted(document.hits.filter((hit) => !hit.around).length, "line"));
   let last = 0;
   for (const hit of document.hits) {
@@ -182,6 +185,10 @@ function addReviewed(told, head) {
   const title = told.before && told.after && told.before.name !== told.after.name ? `${told.before.name} → ${told.after.name}` : side.name;
   const signs = ["-", "+", " "].map((sign) => told.hits.filter((hit) => hit.sign === sign).length);
   const section = sectionOf(title, `−${signs[0]} +${signs[1]}, ${signs[2]} left`);
+  for (const place of ["before", "after"]) {
+    const hits = told.hits.filter((hit) => hit[place]).map((hit) => ({ ...hit, line: hit[place] }));
+    if (hits.length) found.set(keyOf({ of: head.repository, file: told[place].id, commit: head[place] }), hits);
+  }
   for (const hit of told.hits) {
     const own = hit.sign === "-" ? { file: told.before.id, commit: head.before, lines: hit.before } : { file: told.after.id, commit: head.after, lines: hit.after };
     const row = rowOf(hit, { of: head.repository, ...own }, hit.after ? String(hit.after) : "");
@@ -311,6 +318,7 @@ async function searchReview(words, own) {
   }
   if (!total) return;
   fault.hidden = true;
+  markFile();
   show(`${total.removed} removed, ${total.added} added, ${total.left} left, in ${counted(files, "file")} of the patch${total.more ? ", and there are more" : ""}.`);
 }
 
@@ -398,9 +406,8 @@ function showRange(file, scrolls) {
 // Shows the matches of the answer in the file that is open, if it is of the same state.
 function markFile() {
   if (!shownFile) return;
-  const document = found.get(`${shownFile.of}/${shownFile.file}`), head = heads.get(shownFile.of), rows = rowsOfFile();
-  if (!document || !rows.length || (head.commit ? head.commit !== shownFile.commit : String(head.version) !== String(shownFile.version))) return;
-  for (const hit of document.hits) {
+  const rows = rowsOfFile();
+  for (const hit of found.get(keyOf(shownFile)) || []) {
     const text = rows[hit.line - 1]?.querySelector(".text");
     if (text && !(hit.cut && at("file-lines").dataset.whole)) {
       text.replaceChildren();
