@@ -2,6 +2,7 @@
 
 import importlib.util
 import json
+import os
 import pathlib
 import re
 import shlex
@@ -39,7 +40,7 @@ class Operators(unittest.TestCase):
 
     def here(self, text: str, port: int = 0) -> str:
         """A block with the paths and the ports of this test."""
-        for path, own in ("/srv/git", "git"), ("/etc/tsearch", ""), ("/var/log/tsearch", ""), ("/etc/ssl", ""):
+        for path, own in ("/srv/git", "git"), ("/etc/tsearch", ""), ("/var/log/tsearch", ""), ("/etc/ssl", ""), ("/opt/tsearch", "venv"):
             text = text.replace(path, str(self.top / own).rstrip("/"))
         return text.replace("127.0.0.1:8080", f"127.0.0.1:{port}") if port else text
 
@@ -47,8 +48,8 @@ class Operators(unittest.TestCase):
         """A server with the words of the unit and the settings of the page."""
         (self.top / "host.toml").write_text(self.here(blocks("toml")[0]))
         words = shlex.split(self.here(re.search(r"^ExecStart=(.*)$", blocks("ini")[0], re.MULTILINE)[1]))
-        self.assertEqual(words[:3], ["/usr/bin/python3", "-m", "tsearch.web"])
-        return self.enterContext(serving_in(self.top, *words[3:], *more, count=2))
+        self.assertEqual(words[0], f"{self.top}/venv/bin/tsearch-web")
+        return self.enterContext(serving_in(self.top, *words[1:], *more, count=2))
 
     def curl(self, *words: str) -> tuple[int, str]:
         """The status and the body of an answer."""
@@ -65,7 +66,7 @@ class Operators(unittest.TestCase):
     def test_settings_hook_and_watching(self) -> None:
         server = self.serve("--look", "1000")
         port = int(server.address.rpartition(":")[2])
-        hook, _, watching = blocks("sh")
+        _, hook, _, watching = blocks("sh")
         self.assertEqual([row[:2] for row in server.hits("int")], [("one", "src/a.c"), ("one", "src/secret/key.c"), ("second", "b.c")])
         self.assertEqual(len(server.hits("int release", revision="release/1", repository="one")), 1)
         self.shell(hook, port)
@@ -88,10 +89,24 @@ class Operators(unittest.TestCase):
         rows = [json.loads(line) for line in (self.top / "requests.jsonl").read_text().splitlines()]
         self.assertLessEqual({"time", "address", "method", "path", "status", "bytes", "seconds"}, rows[0].keys())
 
+    @unittest.skipUnless(pathlib.Path("/usr/bin/python3").exists() and importlib.util.find_spec("ensurepip"), "/usr/bin/python3 or venv is missing")
+    def test_the_installation(self) -> None:
+        """Without a network, and without the users of the machine."""
+        block = re.sub(r"^useradd .*\n", "", blocks("sh")[0], flags=re.MULTILINE)
+        environment = {**os.environ, "PIP_INDEX_URL": "http://127.0.0.1:9/", "PIP_DISABLE_PIP_VERSION_CHECK": "1"}
+        done = subprocess.run(["sh", "-e", "-c", self.here(block)], cwd=TOP, env=environment, capture_output=True, timeout=SECONDS, check=False, text=True)
+        self.assertEqual(done.returncode, 0, done.stderr)
+        command = self.here(re.search(r"^ExecStart=(\S+)", blocks("ini")[0], re.MULTILINE)[1])
+        environment.pop("PYTHONPATH", None)
+        done = subprocess.run([command, "--help"], cwd="/", env=environment, capture_output=True, timeout=SECONDS, check=False, text=True)
+        self.assertIn("--settings FILE", done.stdout + done.stderr)
+
     @unittest.skipUnless(shutil.which("systemd-analyze"), "the command systemd-analyze is missing")
     def test_the_unit(self) -> None:
         unit = self.top / "tsearch.service"
-        unit.write_text(blocks("ini")[0])
+        (self.top / "venv/bin").mkdir(parents=True)
+        (self.top / "venv/bin/tsearch-web").symlink_to("/bin/true")
+        unit.write_text(self.here(blocks("ini")[0]))
         done = subprocess.run(["systemd-analyze", "verify", "--man=no", str(unit)], capture_output=True, timeout=SECONDS, check=False, text=True)
         faults = [line for line in done.stderr.splitlines() if str(unit) in line or "tsearch.service" in line]
         self.assertEqual(faults, [])
