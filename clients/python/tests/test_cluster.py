@@ -11,6 +11,7 @@ import pathlib
 import random
 import re
 import signal
+import subprocess
 import sys
 import tempfile
 import unittest
@@ -18,7 +19,7 @@ import unittest.mock
 import zlib
 
 from helpers import PACKAGE, SECONDS, Model, found_in, shown, stop, stopped, until
-from serving import DOCUMENTS, serving
+from serving import DOCUMENTS, free_port, serving
 
 import tsearch
 
@@ -338,6 +339,23 @@ class Clusters(unittest.IsolatedAsyncioTestCase):
 
 @unittest.skipUnless(HAS_DASK and HAS_AIOHTTP, "the library distributed or aiohttp is missing (python3-distributed, python3-aiohttp)")
 class Page(unittest.TestCase):
+    def test_a_scheduler_that_is_not_there(self) -> None:
+        """It is named, and so is the library if that is missing."""
+        late = {"DASK_DISTRIBUTED__COMM__TIMEOUTS__CONNECT": "1s"}
+        hidden = "import sys; sys.modules['distributed'] = None; from tsearch.web.__main__ import main; main(sys.argv[1:])"
+        with tempfile.TemporaryDirectory() as top:
+            for words, scheduler, said in (
+                (["-m", "tsearch.web"], "tcp://127.0.0.1:9", "the scheduler tcp://127.0.0.1:9 cannot be reached: "),
+                (["-m", "tsearch.web"], "nonsense", "the scheduler nonsense cannot be reached: "),
+                (["-c", hidden], address, "a cluster needs the library distributed"),
+            ):
+                with self.subTest(scheduler=scheduler):
+                    command = [sys.executable, "-B", *words, "--port", str(free_port()), "--cluster", scheduler, top]
+                    done = subprocess.run(command, cwd=PACKAGE, env={**os.environ, **late}, capture_output=True, check=False, timeout=SECONDS, text=True)
+                    self.assertEqual(done.returncode, 1)
+                    self.assertIn(f"tsearch.web: {said}", done.stderr)
+                    self.assertNotIn("Traceback", done.stderr)
+
     def test_the_page_over_a_cluster(self) -> None:
         with serving("--cluster", address, "--shards", "2") as server:
             mains = [("one", "src/main.c", 1, "int main(void)"), ("two", "src/main.c", 1, "int main(int count)")]

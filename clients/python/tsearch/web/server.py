@@ -206,12 +206,17 @@ class Server:
         options: dict[str, Any] = {"readers": readers, "search_ms": limits.search_ms, "max_answer": limits.answer}
         if settings.cluster is None:
             return await aio.Session.start(**options)
-        from distributed import Client
+        try:
+            from distributed import Client
 
-        from ..cluster import Cluster
-
+            from ..cluster import Cluster
+        except ImportError:
+            raise Error("a cluster needs the library distributed (on Debian: apt-get install python3-distributed)") from None
         make: Any = Client
-        self._client = await stack.enter_async_context(make(settings.cluster, asynchronous=True, direct_to_workers=True))
+        try:
+            self._client = await stack.enter_async_context(make(settings.cluster, asynchronous=True, direct_to_workers=True))
+        except (OSError, ValueError) as error:
+            raise Error(f"the scheduler {settings.cluster} cannot be reached: {error}") from None
         return Cluster(self._client, settings.shards, **options)
 
     async def _end(self) -> None:
