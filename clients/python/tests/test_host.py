@@ -131,7 +131,7 @@ class Repositories(Host):
         rows = server.lines("/api/review", repository="made", before="main", after="topic", q="int", max=2)
         self.assertEqual((sum(len(row["hits"]) for row in rows if "hits" in row), rows[-1]["more"]), (2, True))
         # the only one that is seen is taken where none is named, and for no other name
-        for name, status in ("", 200), ("made", 200), ("other", 400):
+        for name, status in ("", 200), ("made", 200), ("other", 404):
             self.assertEqual(server.get(f"/api/file?repository={name}&commit={self.first}&name=src/main.c")[0], status, name)
             self.assertEqual(server.get(f"/api/review?repository={name}&before=main&after=topic&q=int")[0], status, name)
         server.headers = {"X-Filters": json.dumps({"made": {"names": ["("]}})}
@@ -139,7 +139,7 @@ class Repositories(Host):
             self.assertEqual(rows, [{"refused": "group not closed", "offset": 0, "in": "host"}])
         server.headers = {"X-Filters": json.dumps({"none": {}})}
         self.assertEqual(server.find("int")[-1]["lines"], 0)
-        self.assertEqual(server.get("/api/review?repository=made&before=main&after=topic&q=int")[0], 400)
+        self.assertEqual(server.get("/api/review?repository=made&before=main&after=topic&q=int")[0], 404)
 
     def test_a_push_is_found_at_its_hook(self) -> None:
         """Without the page looking by itself. The hook is that of the page for operators."""

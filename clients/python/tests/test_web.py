@@ -161,7 +161,7 @@ class Web(unittest.TestCase):
             status, body, _ = self.server.get(f"/api/file?repository=one&life=1&version=6&{words}")
             self.assertEqual(status, 404, (words, body))
         long = "repository=one&name=a&life=1&version=" + "1" * 5_000
-        short = ["", "repository=none&name=a&life=1&version=1", "repository=one&name=a&life=x&version=1", "repository=one&life=1&version=1"]
+        short = ["", "name=a&life=1&version=1", "repository=one&name=a&life=x&version=1", "repository=one&life=1&version=1"]
         for words in [*short, long]:
             self.assertEqual(self.server.get(f"/api/file?{words}")[0], 400, words)
         self.assertEqual(self.server.get("/api/status", {"Host": "attacker.example"})[0], 403)
