@@ -195,5 +195,5 @@ class Published(Status):
     refused: tuple[ChangeRefused, ...] = ()
 
     def before(self, later: Published) -> Published:
-        """A later one, with what was refused before this one too."""
+        """A later publish, with what this one tells as well."""
         return dataclasses.replace(later, refused=(*self.refused, *later.refused))
