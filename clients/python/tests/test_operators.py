@@ -216,6 +216,28 @@ class Operators(unittest.TestCase):
         self.check_proxy(ask, server)
 
 
+@unittest.skipUnless(importlib.util.find_spec("aiohttp"), "the library aiohttp is missing (python3-aiohttp)")
+class Options(unittest.TestCase):
+    def test_words_that_it_cannot_take(self) -> None:
+        """Each is named in one line, with what it may be."""
+        with tempfile.TemporaryDirectory() as name:
+            for words, said in {
+                ("--readers", "17", name): "argument --readers: 17 is no number from 0 to 16",
+                ("--port", "x", name): "argument --port: x is no number from 1 to 65535",
+                ("--look", "often", name): "argument --look: often is no number of seconds",
+                ("--proxy", "nginx", name): "argument --proxy: nginx is no address, and no network",
+                ("--settings", f"{name}/none.toml"): f"{name}/none.toml: No such file or directory",
+                ("--revisions", "main", name): f"{name} is not a git repository",
+                (f"{name}/none",): f"{name}/none is not a folder",
+                (): "give repositories, or --settings with a file that names them",
+            }.items():
+                with self.subTest(words=words):
+                    done = subprocess.run([sys.executable, "-B", "-m", "tsearch.web", *words], cwd=PACKAGE, capture_output=True, text=True, timeout=SECONDS, check=False)
+                    self.assertEqual(done.returncode, 2)
+                    self.assertTrue(done.stderr.endswith(f"{said}\n"), done.stderr)
+                    self.assertNotIn("Traceback", done.stderr)
+
+
 class Package(unittest.TestCase):
     def test_options_of_the_page(self) -> None:
         """Each that the page names is there."""

@@ -26,16 +26,28 @@ from .visitors import Connection, OneLine
 
 def _number(least: int, most: int) -> type:
     def read(text: str) -> int:
-        number = int(text)
-        if not least <= number <= most:
-            raise ValueError
-        return number
+        if not (text.isascii() and text.isdigit() and len(text) < 20 and least <= int(text) <= most):
+            raise argparse.ArgumentTypeError(f"{text} is no number from {least} to {most}")
+        return int(text)
 
     return read  # type: ignore[return-value]
 
 
+def _seconds(text: str) -> float:
+    try:
+        seconds = float(text)
+    except ValueError:
+        seconds = -1.0
+    if not 0 < seconds < 1e9:
+        raise argparse.ArgumentTypeError(f"{text} is no number of seconds")
+    return seconds
+
+
 def _network(text: str) -> str:
-    return str(ipaddress.ip_network(text, strict=False))
+    try:
+        return str(ipaddress.ip_network(text, strict=False))
+    except ValueError:
+        raise argparse.ArgumentTypeError(f"{text} is no address, and no network") from None
 
 
 def _parser() -> argparse.ArgumentParser:
@@ -52,7 +64,7 @@ def _parser() -> argparse.ArgumentParser:
     add("--most-searches", type=_number(1, 512), default=Limits.searches, help="searches at a time, by default %(default)s")
     add("--most-context", type=_number(0, 1_000), default=Limits.context, help="lines around a line, by default %(default)s")
     add("--readers", type=_number(0, 16), help="threads that search, by default one for each processor")
-    add("--look", type=float, default=5.0, metavar="SECONDS", help="look for changed files so often, by default %(default)s")
+    add("--look", type=_seconds, default=5.0, metavar="SECONDS", help="look for changed files so often, by default %(default)s")
     add("--name", action="append", default=[], help="a host name under which the page may be called; once for each")
     add("--proxy", action="append", default=[], type=_network, metavar="ADDRESS", help="a proxy whose X-Forwarded-For says who asks; once for each")
     add("--filter-header", metavar="NAME", help="a header that the host in front sets: what a request may see")

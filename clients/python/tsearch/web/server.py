@@ -328,7 +328,7 @@ class Server:
         host = _host_of(f"//{request.host}").rpartition("@")[2]
         name = host if host.endswith("]") else host.rpartition(":")[0] or host
         if self._settings.hosts is not None and name not in self._settings.hosts:
-            raise web.HTTPForbidden(text="this name is not served")
+            raise web.HTTPForbidden(text="this name is not served: --name says which are")
         is_link = request.path == "/" and request.method == "GET" and request.headers.get("Sec-Fetch-Mode") == "navigate"
         site, origin = request.headers.get("Sec-Fetch-Site"), request.headers.get("Origin")
         is_other = site not in _OWN_SITE if site is not None else origin is not None and _host_of(origin) != request.host

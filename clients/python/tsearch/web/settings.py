@@ -67,7 +67,9 @@ def read_served(path: str) -> tuple[Served, ...]:
     try:
         with open(path, "rb") as file:
             told = tomllib.load(file)
-    except (OSError, tomllib.TOMLDecodeError, UnicodeDecodeError) as error:
+    except OSError as error:
+        raise Error(f"{path}: {error.strerror}") from None
+    except (tomllib.TOMLDecodeError, UnicodeDecodeError) as error:
         raise Error(f"{path}: {error}") from None
     rows = told.get("repository", [])
     if told.keys() - {"repository"} or not isinstance(rows, list):
