@@ -11,7 +11,7 @@ import tempfile
 
 from counted import Counted, Wrong
 from editors import trees
-from editors.neovim import Neovim, grep, write
+from editors.neovim import PLUGIN, Neovim, grep, write
 from terminal.trees import TGREP, environment_in, run, stop_all
 
 WORD = "ListenAndServe"
@@ -398,6 +398,27 @@ def has_help_and_health(place):
             raise Wrong(report)
 
 
+def is_found_as_a_package(place):
+    """By the commands of its page: the plugin, its help, and the command of the clone."""
+    page = (PLUGIN / "README.md").read_text(encoding="utf-8")
+    lines = page.split("looks for packages:\n\n")[1].split("\n\n")[0].replace("/path/to/clients/neovim", str(PLUGIN))
+    home = place.room / "home"
+    home.mkdir()
+    own = {name: text for name, text in place.environment.items() if not name.startswith("XDG_")}
+    way = {"env": {**own, "HOME": str(home)}, "check": True, "capture_output": True, "stdin": subprocess.DEVNULL}
+    tags = PLUGIN / "doc/tags"
+    were_there = tags.exists()
+    try:
+        subprocess.run(["sh", "-e", "-c", lines], **way)
+        shown = 'io.stdout:write(require("tgrep.config").command()[1] .. " " .. vim.fn.exists(":TgrepReplace"))'
+        done = subprocess.run(["nvim", "--headless", "-c", f"lua {shown}", "-c", "help :TgrepReplace", "-c", "qa!"], **way)
+        wants(done.stdout.decode(), f"{TGREP} 2", "the command, and whether the plugin is there")
+        wants(done.stderr.decode(), "", "what it says")
+    finally:
+        if not were_there:
+            tags.unlink(missing_ok=True)
+
+
 def neovim_doc(place):
     """A copy of the help, whose tags are written."""
     folder = place.room / "help/doc"
@@ -410,7 +431,7 @@ TESTS = [
     lists_what_a_pattern_finds, shows_what_is_found_as_one_types, a_window_becomes_a_list, unsaved_buffers_are_searched, what_is_found_follows,
     a_killed_server_is_started_again, a_large_buffer, a_thousand_edits, searches_are_cancelled, replaces_what_is_shown,
     a_file_that_another_editor_has_open_is_skipped, without_watchman_changes_are_found_too,
-    a_command_that_is_missing_is_named, has_help_and_health,
+    a_command_that_is_missing_is_named, has_help_and_health, is_found_as_a_package,
 ]  # fmt: skip
 
 

@@ -16,7 +16,9 @@ local words
 -- The words that call tgrep: those of the setting, or the one of this repository, or the one on the PATH.
 function M.command()
   if not words then
-    local here = debug.getinfo(1, "S").source:sub(2):match("^(.*)/clients/neovim/lua/tgrep/config%.lua$")
+    -- a folder of packages may have a link to it
+    local source = debug.getinfo(1, "S").source:sub(2)
+    local here = (vim.loop.fs_realpath(source) or source):match("^(.*)/clients/neovim/lua/tgrep/config%.lua$")
     local beside = here and here .. "/tgrep"
     words = beside and vim.loop.fs_stat(beside) and { beside } or { "tgrep" }
   end
