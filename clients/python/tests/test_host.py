@@ -191,6 +191,11 @@ class Settings(Host):
         until(lambda: [row[0] for row in server.hits("int other|int main")] == ["first", "other"])
         self.assertEqual(server.hits("int topic", revision="topic", repository="other"), [("other", "a.c", 1, "int topic;")])
         self.assertEqual(server.programs()[:1], program)
+        # one that is not there is said once, and what is there is served
+        change(second.replace('"topic"', '"topic", "none", "also", "v*"'))
+        until(lambda: "tsearch.web: other: there is no revision none, also\n" in server.log)
+        self.assertEqual(len(server.hits("int topic", revision="topic", repository="other")), 1)
+        self.assertEqual(server.log.count("there is no revision"), 1)
         change(second.replace(', "topic"', ""))
         until(lambda: [row[0] for row in server.hits("int other|int main")] == ["other"])
         until(lambda: server.find("x", revision="topic") == [{"refused": "there is no revision topic"}])

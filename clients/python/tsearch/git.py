@@ -85,7 +85,7 @@ class Store:
     def commits(self, wanted: Sequence[str]) -> dict[str, str]:
         """The commits of names: a branch, a tag, a commit, or what else git reads as one; a name with a `*`, `?` or `[` is each branch of
         such a name, or behind `tags/` each tag. Each in the order of the names; what is not there is left out."""
-        plain = [name for name in wanted if not _is_glob(name)]
+        plain = [name for name in wanted if not is_glob(name)]
         found = dict(zip(plain, self._resolved(plain)))
         every = self._branches_and_tags() if len(plain) < len(wanted) else {}
         commits: dict[str, str] = {}
@@ -203,7 +203,8 @@ def _feed(stdin: IO[bytes], wanted: list[bytes]) -> None:
         stdin.write(b"".join(b"%s\n" % number for number in wanted))
 
 
-def _is_glob(name: str) -> bool:
+def is_glob(name: str) -> bool:
+    """Whether it is the pattern of names."""
     return any(letter in name for letter in "*?[")
 
 
@@ -281,7 +282,7 @@ class Objects:
             del self.held[revision]
         # a file that changes twice within a tick of the clock has another number, mostly
         is_settled = all(modified <= began - TICK for _, modified, _, _ in stamp)
-        is_whole = all(_is_glob(name) or name in now for name in wanted)
+        is_whole = all(is_glob(name) or name in now for name in wanted)
         self._seen = (stamp, wanted) if is_settled and is_whole else None
 
     def _start(self, revision: str) -> bytes:

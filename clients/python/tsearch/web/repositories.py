@@ -21,7 +21,7 @@ from .. import aio
 from ..answers import Answer, Published, Status
 from ..errors import Ended, Error, SearchRefused
 from ..folder import text_body
-from ..git import FILE_KINDS, Store
+from ..git import FILE_KINDS, Store, is_glob
 from ..history import History
 from ..names import quote, to_bytes
 from ..paths import check, under
@@ -389,6 +389,8 @@ class Objects(Repository):
         self.store: Store = self._revisions.objects.store
         # the commits from each version on
         self._commits: list[tuple[int, dict[str, str]]] = [(0, {})]
+        # what is to be served and is not there, as it was said last
+        self._missing: list[str] = []
         # all that were served: a link to a line stays one
         self._seen: set[str] = set()
         # the last ones that were asked for, and how many searches there are in each
@@ -416,6 +418,13 @@ class Objects(Repository):
         if is_taken:
             self._revisions.objects.wanted = served.revisions
         return is_taken
+
+    async def _look(self, say: Callable[[str], None]) -> None:
+        await super()._look(say)
+        missing = [name for name in self.served.revisions if not is_glob(name) and name not in self.revisions] if self.is_loaded else []
+        if missing and missing != self._missing:
+            say(f"{self.name}: there is no revision {', '.join(missing)}")
+        self._missing = missing
 
     async def leave(self, keeping: asyncio.Task[None]) -> None:
         """Ends the reviews too."""
