@@ -567,13 +567,14 @@ class Sharing(unittest.IsolatedAsyncioTestCase):
 
         made = Made(self.top / "made.git")
         objects = Objects(Served("made", os.fsencode(made.path), ("main", "topic")), self.shared)
-        commits, answers = [], []
+        commits, answers, said = [], [], []
         for number in range(3):
             commits.append(made.commit("main", {b"n.c": b"int n%d;\n" % number}))
-            await objects._look(self.fail)
+            await objects._look(said.append)
             answers.append(await self.session.find("int"))
         found = [(await objects.found(answer, *objects.start("main"))).commit for answer in answers]
         self.assertEqual(found, commits)
+        self.assertEqual(said, ["made: there is no revision topic"])
         # another branch with the same files is no publish
         made.commit("topic", {}, start="main")
         await objects._look(self.fail)
