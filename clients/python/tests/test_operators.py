@@ -94,7 +94,7 @@ class Operators(unittest.TestCase):
         """Without a network, and without the users of the machine."""
         block = re.sub(r"^useradd .*\n", "", blocks("sh")[0], flags=re.MULTILINE)
         environment = {**os.environ, "PIP_INDEX_URL": "http://127.0.0.1:9/", "PIP_DISABLE_PIP_VERSION_CHECK": "1"}
-        done = subprocess.run(["sh", "-e", "-c", self.here(block)], cwd=TOP, env=environment, capture_output=True, timeout=SECONDS, check=False, text=True)
+        done = subprocess.run(["sh", "-e", "-c", self.here(block)], cwd=TOP, env=environment, capture_output=True, timeout=2 * SECONDS, check=False, text=True)
         self.assertEqual(done.returncode, 0, done.stderr)
         command = self.here(re.search(r"^ExecStart=(\S+)", blocks("ini")[0], re.MULTILINE)[1])
         environment.pop("PYTHONPATH", None)
