@@ -25,7 +25,7 @@ TESTS = TOP / "clients/python/tests"
 MODULES = ["test_links", "test_access", "test_host", "test_shared", "test_visitors", "test_operators", "test_browser", "test_cluster", "test_aio", "test_session", "test_web", "test_warm", "test_warm_server", "test_tgrep", "test_folder", "test_git", "test_ignored", "test_paths", "test_readme", "test_review", "test_core"]
 LIBRARIES = ["aiohttp", "selenium", "watchdog", "distributed"]
 LEAST_VERSION = (3, 11)
-SECONDS = 170
+SECONDS = 400
 COUNTS = re.compile(r"(\d+) passed, (\d+) failed")
 
 

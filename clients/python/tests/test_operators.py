@@ -29,6 +29,14 @@ def blocks(kind: str) -> list[str]:
 
 
 @unittest.skipUnless(PAGE.exists() and importlib.util.find_spec("aiohttp") and shutil.which("git"), "the page, aiohttp or git is missing")
+def has_venv() -> bool:
+    """Whether the system's Python makes environments: on Debian that is a package of its own."""
+    try:
+        return subprocess.run(["/usr/bin/python3", "-c", "import ensurepip"], capture_output=True, check=False).returncode == 0
+    except FileNotFoundError:
+        return False
+
+
 class Operators(unittest.TestCase):
     def setUp(self) -> None:
         self.top = pathlib.Path(self.enterContext(tempfile.TemporaryDirectory()))
@@ -89,7 +97,7 @@ class Operators(unittest.TestCase):
         rows = [json.loads(line) for line in (self.top / "requests.jsonl").read_text().splitlines()]
         self.assertLessEqual({"time", "address", "method", "path", "status", "bytes", "seconds"}, rows[0].keys())
 
-    @unittest.skipUnless(pathlib.Path("/usr/bin/python3").exists() and importlib.util.find_spec("ensurepip"), "/usr/bin/python3 or venv is missing")
+    @unittest.skipUnless(has_venv(), "/usr/bin/python3 or its venv is missing")
     def test_the_installation(self) -> None:
         """Without a network, and without the users of the machine."""
         block = re.sub(r"^useradd .*\n", "", blocks("sh")[0], flags=re.MULTILINE)
