@@ -1,5 +1,6 @@
 """Commands that a build runs: with progress on standard error, an end when the build ends, and a reason where they fail."""
 
+import contextlib
 import errno
 import os
 import shutil
@@ -8,6 +9,8 @@ import subprocess
 import sys
 import time
 
+# The signals that end a build.
+ENDING = {signal.SIGHUP, signal.SIGINT, signal.SIGTERM}
 # How many seconds pass between two lines of progress.
 PROGRESS = 15
 # How little room on the disk explains that a command failed.
@@ -36,26 +39,41 @@ def need_rt():
         raise CannotBuild(NO_RT)
 
 
+@contextlib.contextmanager
+def undisturbed():
+    """Lets signals that end the build come only once this is left, and gives the mask from before."""
+    before = signal.pthread_sigmask(signal.SIG_BLOCK, ENDING)
+    try:
+        yield before
+    finally:
+        signal.pthread_sigmask(signal.SIG_SETMASK, before)
+
+
 def end(process):
     """Ends a command and all that it started."""
-    try:
-        os.killpg(process.pid, signal.SIGTERM)
-    except ProcessLookupError:
-        pass
-    try:
-        process.wait(5)
-    except subprocess.TimeoutExpired:
-        os.killpg(process.pid, signal.SIGKILL)
-        process.wait()
+    with undisturbed():
+        try:
+            os.killpg(process.pid, signal.SIGTERM)
+        except ProcessLookupError:
+            pass
+        try:
+            process.wait(5)
+        except subprocess.TimeoutExpired:
+            os.killpg(process.pid, signal.SIGKILL)
+            process.wait()
 
 
-def start(words, log, **how):
-    """Starts a command in a session of its own. What it writes goes to the file `log`."""
+def start(words, log, running, **how):
+    """Starts a command in a session of its own, and adds it to the list `running`, also where a signal comes meanwhile. What it writes
+    goes to the file `log`."""
     try:
-        with open(log, "wb") as written:
-            return subprocess.Popen(
-                words, stdin=subprocess.DEVNULL, stdout=written, stderr=subprocess.STDOUT, start_new_session=True, **how
-            )
+        with open(log, "wb") as written, undisturbed() as before:
+            process = subprocess.Popen(
+                words, stdin=subprocess.DEVNULL, stdout=written, stderr=subprocess.STDOUT, start_new_session=True,
+                preexec_fn=lambda: signal.pthread_sigmask(signal.SIG_SETMASK, before), **how
+            )  # fmt: skip
+            running.append(process)
+            return process
     except OSError as error:
         raise CannotBuild(reason_of(error, f"{words[0]} does not start")) from None
 
@@ -66,7 +84,7 @@ def run(commands, what, began, **how):
     processes = []
     try:
         for words, log in commands:
-            processes.append(start(words, log, **how))
+            start(words, log, processes, **how)
         for process in processes:
             while process.returncode is None:
                 try:

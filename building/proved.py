@@ -68,14 +68,16 @@ def copy_sources(crates, room):
 
 def prove(room, log, progress):
     """Runs `rt ci` in a folder. What it writes goes to the file `log`. Returns its status."""
-    process = start(["rt", "ci"], log, cwd=room)
+    running = []
     try:
+        process = start(["rt", "ci"], log, running, cwd=room)
         while process.poll() is None:
             progress.tell(log)
             time.sleep(LOOK)
     finally:
-        if process.poll() is None:
-            end(process)
+        for process in running:
+            if process.poll() is None:
+                end(process)
     progress.tell(log)
     return process.returncode
 
