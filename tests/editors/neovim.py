@@ -12,7 +12,7 @@ from built import TOP
 from counted import Wrong
 
 PLUGIN = TOP / "clients/neovim"
-SECONDS = 60
+SECONDS = 240
 
 
 class Failed(Wrong):
