@@ -49,18 +49,24 @@ def undisturbed():
         signal.pthread_sigmask(signal.SIG_SETMASK, before)
 
 
-def end(process):
-    """Ends a command and all that it started."""
+def end(processes):
+    """Ends the commands that still run, and all that they started."""
     with undisturbed():
-        try:
-            os.killpg(process.pid, signal.SIGTERM)
-        except ProcessLookupError:
-            pass
-        try:
-            process.wait(5)
-        except subprocess.TimeoutExpired:
-            os.killpg(process.pid, signal.SIGKILL)
-            process.wait()
+        for process in processes:
+            if process.poll() is None:
+                end_one(process)
+
+
+def end_one(process):
+    try:
+        os.killpg(process.pid, signal.SIGTERM)
+    except ProcessLookupError:
+        pass
+    try:
+        process.wait(5)
+    except subprocess.TimeoutExpired:
+        os.killpg(process.pid, signal.SIGKILL)
+        process.wait()
 
 
 def start(words, log, running, **how):
@@ -93,9 +99,7 @@ def run(commands, what, began, **how):
                     say(f"{what} ({spent(began)} so far)")
         return [process.returncode for process in processes]
     finally:
-        for process in processes:
-            if process.poll() is None:
-                end(process)
+        end(processes)
 
 
 def reason_of(error, otherwise):

@@ -75,9 +75,7 @@ def prove(room, log, progress):
             progress.tell(log)
             time.sleep(LOOK)
     finally:
-        for process in running:
-            if process.poll() is None:
-                end(process)
+        end(running)
     progress.tell(log)
     return process.returncode
 
