@@ -37,6 +37,8 @@ def runs_over(small, large, more, headers):
         ("filling", trees),
         ("live", trees),
         ("waits", trees),
+        *[("contents", [tree]) for tree in more],
+        ("turns", [small]),
         ("sessions", [headers]),
         ("cancels", [headers]),
         ("prefixes", [small]),
@@ -58,6 +60,9 @@ def runs_over(small, large, more, headers):
         ("levels", []),
         ("refused", [*trees, headers]),
         ("missing", more),
+        ("tgrep", trees),
+        ("editor", [small]),
+        ("host", [small]),
     ]
 
 
@@ -67,6 +72,11 @@ SECTIONS = {
     "filling": "Filling",
     "live": "Memory and changes",
     "waits": "Statuses after a large publish",
+    "contents": "Revisions",
+    "turns": "Turns",
+    "tgrep": "At the terminal",
+    "host": "The page under load",
+    "editor": "The editor",
     "sessions": "Sessions with readers",
     "cancels": "Cancels and limits of time",
     "readers": "Readers",

@@ -28,6 +28,12 @@ def put(name, body):
     return b"put %s %d\n%s\n" % (name, len(body), body)
 
 
+def own_body(text, number):
+    """The text, and behind it lines that no text with another number has. They are too short for a trigram."""
+    digits = b"%d" % number
+    return b"\n".join([text, *(digits[at : at + 2] for at in range(0, len(digits), 2))])
+
+
 def rows_of(path):
     """The rows of a file: each line but comments and empty ones, as its fields between tabs. \\n is a line feed, \\xHH a byte."""
     for line in path.read_text(encoding="ascii").split("\n"):

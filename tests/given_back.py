@@ -11,7 +11,7 @@ Usage: tests/given_back.py [NAME..]   The last line counts: N passed, M failed.
 import random
 import time
 
-from built import put
+from built import own_body, put
 from counted import Wrong, run_tests
 from live import MEBIBYTE, READERS, SECONDS, Session, faults_with_each
 from sessions.slow_searches import SLOW, slow_body
@@ -85,7 +85,7 @@ def lists_of_many_numbers(start):
     texts = [words(source, 200) for _ in range(4)]
     with start() as session:
         documents = Documents(session, texts)
-        first, *later = [documents.come_and_go([text] * 3_000)[0] for text in texts]
+        first, *later = [documents.come_and_go([own_body(text, number) for number in range(3_000)])[0] for text in texts]
         if later[-1] - first > PART * (first - documents.begin):
             raise Wrong(f"{documents.begin} bytes before the documents, {first} with those of a text, and {later} with those of others")
         session.end(0)
@@ -108,7 +108,7 @@ def replace_and_wait(before=b"", behind=b""):
     body = b"some text\n" * 100_000
     with Session("--readers", "2") as session:
         documents = Documents(session, [slow_body(2, 16_000)])
-        full = documents.memory(b"".join(put(b"%d" % number, body) for number in range(40)))
+        full = documents.memory(b"".join(put(b"%d" % number, own_body(body, number)) for number in range(40)))
         session.send(before + b"".join(put(b"%d" % number, b"x") for number in range(40)) + b"publish\n" + behind)
         if before or behind:
             head, line = session.read_line(), session.read_line()

@@ -26,7 +26,7 @@ import sys
 import tempfile
 import time
 
-from built import PROGRAM, TOP, need_program
+from built import PROGRAM, TOP, need_program, own_body, put
 from counted import Counted, Wrong
 from lines import FOR_THE_SIMULATION
 from live import Session
@@ -214,21 +214,19 @@ class Runs:
         return Memory(*map(int, re.search(r"counts ([\d ]+)", messages)[1].split()), text)
 
 
-def put(name, body):
-    return b"put %s %d\n%s\n" % (name, len(body), body)
-
-
 def each(text, count, first=0):
     """A text for each number; its `#` is the number."""
     return b"".join(text.replace(b"#", b"%d" % number) for number in range(first, first + count))
 
 
 def documents(count):
-    """Documents with the same trigrams, but for every sixteenth part, which has others, and for four that have some of their own."""
+    """Documents with the same trigrams, but for every sixteenth part, which has others, and for four that have some of their own. Each has
+    a body of its own."""
     bodies = [b"one abcd two defg", b"one abcd two defg three hijk"]
-    made = [put(b"f%d" % number, bodies[number % 16 == 0]) for number in range(count)]
+    made = [put(b"f%d" % number, own_body(bodies[number % 16 == 0], number)) for number in range(count)]
     for at in range(4):
-        made[count * at // 4] = put(b"f%d" % (count * at // 4), b"one abcd two defg four uvwxyz")
+        number = count * at // 4
+        made[number] = put(b"f%d" % number, own_body(b"one abcd two defg four uvwxyz", number))
     return b"".join(made)
 
 
@@ -264,7 +262,7 @@ def new_documents_that_are_filled_together(n):
     """Together they have over a MiB, so they are put into the sets of their trigrams at one go, and each number comes to the end of
     long lists."""
     text = b"".join(b"%d\n" % number for number in range(1_000, 1_400))
-    return after(b"", b"".join(put(b"f%d" % number, text) for number in range(n)) + b"publish\n")
+    return after(b"", b"".join(put(b"f%d" % number, own_body(text, number)) for number in range(n)) + b"publish\n")
 
 
 def documents_in_both_copies(n):
@@ -277,6 +275,24 @@ def replacements_of_a_document(n):
 
 def replacements_that_are_published(n):
     return after(SMALL, each(b"put a 11\nhello world\npublish\n", n))
+
+
+def names_of_one_body(n):
+    """The index keeps the body once."""
+    return after(b"", b"".join(put(b"f%d" % number, b"one abcd two defg") for number in range(n)) + b"publish\n" * 3)
+
+
+def removes_of_names_of_one_body(n):
+    """The body goes with its last name."""
+    puts = b"".join(put(b"f%d" % number, b"one abcd two defg") for number in range(n)) + b"publish\n" * 3
+    return after(puts, b"".join(b"remove f%d\n" % number for number in range(n)) + b"publish\n")
+
+
+def second_names_for_a_while(n):
+    """Each body is that of one document, then of two, and then of one again."""
+    copies = b"".join(put(b"copy%d" % number, b"text %d" % number) for number in range(n)) + b"publish\n"
+    texts = b"".join(put(b"f%d" % number, b"text %d" % number) for number in range(n)) + b"publish\n" * 3
+    return after(texts, copies + b"".join(b"remove copy%d\n" % number for number in range(n)) + b"publish\n")
 
 
 def loads_of_a_file(n):
@@ -297,7 +313,7 @@ def removes_from_the_end(n):
 
 def removes_under_a_prefix(n):
     """Where all documents are under the prefix, each goes from an end of its sets."""
-    puts = b"".join(put(b"f%04d" % number, b"one abcd two defg") for number in range(n))
+    puts = b"".join(put(b"f%04d" % number, own_body(b"one abcd two defg", number)) for number in range(n))
     return after(puts + b"publish\n" * 3, b"removeunder f\npublish\n")
 
 
@@ -427,14 +443,14 @@ def candidates_that_are_few_under_a_prefix(n):
 
 def names_after_a_prefix(n):
     """The names of all candidates begin with the prefix, and N others come after them."""
-    first = b"".join(put(b"a/%d" % number, b"qrst") for number in range(16))
+    first = b"".join(put(b"a/%d" % number, own_body(b"qrst", number)) for number in range(16))
     return after(first + published(n), b"searchin ^a/ qrst\n" * 10)
 
 
 def candidates_behind_names_under_a_prefix(n):
     """400 names begin with the prefix, and N candidates come after them. There are over eight times as many documents."""
-    first = b"".join(put(b"a/%d" % number, b"abcd") for number in range(400))
-    others = b"".join(put(b"g%d" % number, b"no") for number in range(10 * n + 4_000))
+    first = b"".join(put(b"a/%d" % number, own_body(b"abcd", number)) for number in range(400))
+    others = b"".join(put(b"g%d" % number, own_body(b"no", number)) for number in range(10 * n + 4_000))
     return after(first + others + documents(n) + b"publish\n" * 3, b"searchin ^a/ abcd\n" * 10)
 
 
@@ -451,7 +467,7 @@ def prefixes_that_are_too_many(n):
 
 def documents_under_as_many_prefixes(n):
     """Each prefix has one of the documents, all of which are candidates."""
-    made = b"".join(put(b"r%d/a" % number, b"abcd") for number in range(n))
+    made = b"".join(put(b"r%d/a" % number, own_body(b"abcd", number)) for number in range(n))
     return after(made + b"publish\n" * 3, b"find %s-- abcd\n" % each(b"--under r#/ ", n))
 
 
@@ -461,7 +477,7 @@ def documents_that_are_left_out_by_prefixes(n):
 
 def documents_beside_prefixes(n):
     """Few documents are under the prefixes, and N others have trigrams that these have not."""
-    made = b"".join(put(b"r%d/a" % number, b"qrst") for number in range(64))
+    made = b"".join(put(b"r%d/a" % number, own_body(b"qrst", number)) for number in range(64))
     return after(made + published(n), b"find %s-- qrst\n" % each(b"--under r#/ ", 64))
 
 
@@ -491,11 +507,11 @@ def intersection_of_lists(n):
 
 
 def documents_while_the_first_is_replaced(n):
-    return after(published(n), (put(b"f0", b"one abcd two defg") + b"publish\n") * 2)
+    return after(published(n), b"".join(put(b"f0", own_body(b"one abcd two defg", n + round)) + b"publish\n" for round in range(2)))
 
 
 def documents_while_the_last_is_replaced(n):
-    return after(published(n), put(b"f%d" % (n - 1), b"one abcd two defg") * 20 + b"publish\n")
+    return after(published(n), b"".join(put(b"f%d" % (n - 1), own_body(b"one abcd two defg", n + round)) for round in range(20)) + b"publish\n")
 
 
 def documents_beside_many_publishes(n):
@@ -503,7 +519,7 @@ def documents_beside_many_publishes(n):
 
 
 def documents_while_some_are_replaced(n):
-    return after(published(n), b"".join(put(b"f%d" % (n * at // 16), b"one abcd two defg") for at in range(16)) + b"publish\n")
+    return after(published(n), b"".join(put(b"f%d" % (n * at // 16), own_body(b"one abcd two defg", n + at)) for at in range(16)) + b"publish\n")
 
 
 def documents_while_some_are_removed(n):
@@ -515,7 +531,7 @@ def members_of_a_union(n):
     documents."""
     letters = b"abcdefghijklmnopqrstuvwxyz"
     texts = [bytes([letters[number // 26], 48 + number % 10, letters[number % 26]]) for number in range(n)]
-    puts = b"".join(put(b"f%d" % number, texts[number % n]) for number in range(1024)) + b"publish\n"
+    puts = b"".join(put(b"f%d" % number, own_body(texts[number % n], number)) for number in range(1024)) + b"publish\n"
     asked = b"searchin ^$ %s\n" % b"|".join(texts) * 10
     return asked + puts, puts + asked
 
@@ -621,6 +637,9 @@ GROWTHS = [
     Row(documents_in_both_copies, 500, (SESSION,)),
     Row(replacements_of_a_document, 1000),
     Row(replacements_that_are_published, 500),
+    Row(names_of_one_body, 500),
+    Row(removes_of_names_of_one_body, 500),
+    Row(second_names_for_a_while, 500),
     Row(loads_of_a_file, 500),
     Row(loads_that_fail, 500),
     Row(removes_of_nothing, 1000),
@@ -739,7 +758,8 @@ def copies_of_a_body(runs):
 
 
 def documents_are_analysed_once(runs):
-    """The trigrams of a body are found when it is published first, not when it is put, and not again for the other copy of the index."""
+    """The trigrams of a body are found when it is published first, not when it is put, and not again for the other copy of the index or
+    for another document."""
     body = text_of_few_trigrams(50_000)
     for way in BOTH:
         nothing, pending, once, shown = (
@@ -750,6 +770,9 @@ def documents_are_analysed_once(runs):
         replaced = put(b"a", b"x") + b"publish\n" * 3 + put(b"a", body) + b"publish\n"
         before, after_it = (runs.instructions(way, script) for script in (replaced, replaced + b"publish\n" * 2))
         yield f"instructions of two more publishes of a replacement in a {way}", after_it - before, 0, (once - pending) // 4
+        copied = put(b"a", body) + b"publish\n" * 3 + put(b"b", body)
+        before, after_it = (runs.instructions(way, copied + b"publish\n" * count) for count in (0, 3))
+        yield f"instructions of publishes of a body that another document has in a {way}", after_it - before, 0, (once - pending) // 4
 
 
 def text_of_few_trigrams(lines):
@@ -764,7 +787,7 @@ def bodies_of_a_publish_are_analysed_by_all_threads(runs):
     text = text_of_few_trigrams(20_000)
     third = 1 / 4, 5 / 12, 5 / 12
     for what, few, many, (least, most, one) in ("nine", 0, 9, third), ("nine behind forty", 40, 9, third), ("ninety", 0, 90, third):
-        puts = b"".join(put(b"f%d" % number, b"x" if number < few else text) for number in range(few + many))
+        puts = b"".join(put(b"f%d" % number, own_body(b"x" if number < few else text, number)) for number in range(few + many))
         work = runs.instructions(SCRIPT, puts + b"publish\n") - runs.instructions(SCRIPT, puts)
         pending, shown = (runs.instructions_of_all_threads(SCRIPT_BESIDE, puts + end) for end in (b"", b"publish\n"))
         yield f"instructions of the first thread for {what} bodies", shown[0] - pending[0], int(work * least), int(work * most)
@@ -776,7 +799,7 @@ def bodies_of_a_publish_are_analysed_by_all_threads(runs):
     )
     yield "threads for a publish of one body", one - nothing, 0, 0
     yield "threads for a publish of a thousand small bodies", small - nothing, 0, 0
-    puts = b"".join(put(b"f%d" % number, text_of_many_trigrams(20_000)) for number in range(9))
+    puts = b"".join(put(b"f%d" % number, own_body(text_of_many_trigrams(20_000), number)) for number in range(9))
     alone, beside = (runs.memory(way, puts + b"publish\nsearch y\n").most for way in (SCRIPT, SCRIPT_BESIDE))
     yield "bytes in use at once where bodies are analysed side by side", beside, alone * 3 // 4, alone * 5 // 4
 
@@ -814,7 +837,7 @@ def trigrams_that_one_document_has(runs):
 def documents_that_are_gone(runs):
     """Little is left of 50,000 documents that came and went, a hundred with each publish. Two with the same text stay."""
     stay = put(b"a", b"some text") + put(b"b", b"some text") + b"publish\n" * 3
-    come = b"".join(put(b"f%d" % number, b"some text") + b"publish\n" * (number % 100 == 99) for number in range(50_000))
+    come = b"".join(put(b"f%d" % number, own_body(b"some text", number)) + b"publish\n" * (number % 100 == 99) for number in range(50_000))
     go = b"".join(b"remove f%d\n" % number + b"publish\n" * (number % 100 == 99) for number in range(50_000))
     before, after_it = (runs.memory(SESSION, stay + script + b"publish\n" * 3 + b"search y\n").held for script in (b"", come + go))
     yield "bytes in use after 50,000 documents came and went", after_it - before, -before, 65_536
@@ -836,8 +859,8 @@ def much_that_goes_takes_no_longer_than_new_documents(runs):
     or behind it, which are passed in each of its sets."""
     texts = text_of_many_trigrams(30), text_of_many_trigrams(30).swapcase()
     first, second, third, others = (
-        b"".join(put(b"%s%04d" % (part, number), text) for number in range(1_000))
-        for part, text in ((b"e", texts[0]), (b"f", texts[0]), (b"g", texts[0]), (b"f", texts[1]))
+        b"".join(put(b"%s%04d" % (part, number), own_body(text, first + number)) for number in range(1_000))
+        for part, text, first in ((b"e", texts[0], 0), (b"f", texts[0], 1_000), (b"g", texts[0], 2_000), (b"f", texts[1], 3_000))
     )
     base = first + second + third + b"publish\n" * 3
     made = runs.instructions(SESSION, base)
@@ -857,10 +880,12 @@ def pages_of_a_document_that_comes_and_goes(runs):
 
 def names_that_are_kept(runs):
     """A document that is replaced keeps the memory of its name. Both copies of the index have the same."""
-    puts = b"".join(put(b"n" * 240 + b"%d" % number, b"x") for number in range(1000))
-    once, twice = (runs.memory(SESSION, (puts + b"publish\n" * 3) * times + b"search y\n").held for times in (1, 2))
+    puts, again = (
+        b"".join(put(b"n" * 240 + b"%d" % number, own_body(text, number)) for number in range(1000)) + b"publish\n" * 3 for text in (b"x", b"z")
+    )
+    once, twice = (runs.memory(SESSION, items + b"search y\n").held for items in (puts, puts + again))
     yield "bytes more after 1,000 names of 240 bytes are replaced", twice - once, -once, 120_000
-    short = b"".join(put(b"n%d" % number, b"x") for number in range(1000))
+    short = b"".join(put(b"n%d" % number, own_body(b"x", number)) for number in range(1000))
     less, more = (runs.memory(SESSION, items + b"publish\n" * 3 + b"search y\n").held for items in (short, puts))
     yield "bytes more for 1,000 names of 240 bytes than for short ones", more - less, 200_000, 360_000
 
@@ -871,9 +896,9 @@ def room_under_a_prefix(runs):
     before, after_it = (runs.memory(SESSION, base + search, 80_000).large for search in (b"", b"searchin ^a/ abcd\n"))
     yield "requests of at least 80,000 bytes for a name of 4,001", after_it - before, 0, 0
     # 200 names of 11,200 begin with it, and 1,200 documents are candidates
-    others = documents(1_000) + b"".join(put(b"g%d" % number, b"no") for number in range(10_000))
+    others = documents(1_000) + b"".join(put(b"g%d" % number, own_body(b"no", number)) for number in range(10_000))
     for prefix in b"a/", b"f2/", b"z/":
-        base = b"".join(put(prefix + b"%d" % number, b"abcd") for number in range(200)) + others + b"publish\n" * 3
+        base = b"".join(put(prefix + b"%d" % number, own_body(b"abcd", number)) for number in range(200)) + others + b"publish\n" * 3
         before, after_it = (runs.memory(SESSION, base + search, 20_000).large for search in (b"", b"searchin ^%s abcd\n" % prefix))
         yield f"requests of at least 20,000 bytes for 200 names under {prefix.decode()}", after_it - before, 0, 0
 
@@ -898,7 +923,7 @@ def answers_without_hits(runs):
 
 def room_for_candidates(runs):
     """For 1,000 candidates, which are a sixth of the documents, no room is made for as many as there are documents."""
-    others = b"".join(put(b"g%d" % number, b"no") for number in range(5_000))
+    others = b"".join(put(b"g%d" % number, own_body(b"no", number)) for number in range(5_000))
     base = documents(1_000) + others + b"publish\n" * 3
     before, after_it = (runs.memory(SESSION, base + search, 80_000).large for search in (b"", b"search abcd.*q\n"))
     yield "requests of at least 80,000 bytes for 1,000 candidates of 6,000", after_it - before, 0, 0
@@ -928,7 +953,7 @@ def candidates_behind_a_limit_are_not_taken(runs):
 
 def patterns_are_compiled_once(runs):
     """A pattern is compiled for the first large body, not again for the next, and not at all if no document is left."""
-    large = [b"".join(put(b"f%d" % number, b"some text\n" * 2000) for number in range(count)) + b"publish\n" * 3 for count in (1, 4)]
+    large = [b"".join(put(b"f%d" % number, own_body(b"some text\n" * 2000, number)) for number in range(count)) + b"publish\n" * 3 for count in (1, 4)]
 
     def requests(first, search):
         return runs.memory(SESSION, first + search).requests - runs.memory(SESSION, first).requests
@@ -956,6 +981,21 @@ def lines_are_matched_once(runs):
     line = b"a" * 90 + b"x\n"
     few, many = (runs.instructions(SESSION, put(b"a", line * count) + b"publish\nfind --column -- x\n") for count in (100, 400))
     yield "instructions for 300 columns in lines of 90 bytes", many - few, 0, 9_000_000
+
+
+def contents_are_matched_once(runs):
+    """A body is matched once for all documents that have it; its lines are listed under each of their names. (Lines around them are looked
+    for in each document.)"""
+    body, search = b"some text\n" * 10_000 + b"some xyz\n", b"find %s-- e.*[xz]yz$\n"
+    for words in b"", b"-l ", b"-c ", b"--column ":
+        few, many = (instructions_for_names(runs, body, search % words, count) for count in (10, 40))
+        yield f"instructions for 30 more names of {len(body)} bytes that are searched, by find {words.decode()}", many - few, 0, 30 * 30_000
+
+
+def instructions_for_names(runs, body, search, count):
+    """The instructions of a search in so many documents of one body, beyond those for the documents."""
+    script = b"".join(put(b"f%d" % number, body) for number in range(count)) + b"publish\n"
+    return runs.instructions(SESSION, script + search) - runs.instructions(SESSION, script)
 
 
 def simulations_are_made_once(runs):
@@ -1044,7 +1084,7 @@ def publishes_of_nothing_hold_nothing(runs):
 def searches_beside_others(runs):
     """A search that is asked while no other is open goes on in as many threads as there are readers, and one more; others in one. Its reader
     is one of them. A session reads in a thread of its own. One thread starts the others, and one waits for a further search."""
-    large = b"".join(put(b"f%d" % number, b"some text\n" * 100_000) for number in range(20)) + b"publish\n"
+    large = b"".join(put(b"f%d" % number, own_body(b"some text\n" * 100_000, number)) for number in range(20)) + b"publish\n"
     small = put(b"a", b"some text\n" * 100) + b"publish\n"
     many = large + b"search e.*z\n" * 20
     for way, own in (SCRIPT_BESIDE, 2), (SESSION_BESIDE, 3):
@@ -1160,10 +1200,10 @@ def searches_come_before_the_second_copy(runs):
 
 def parts_of_a_search_are_even(runs):
     """Of a search of nine bodies of one length in three threads, each looks at three bodies, and of one of two bodies no thread at both."""
-    large = b"".join(put(b"f%d" % number, b"some text\n" * 60_000) + b"publish\n" for number in range(9))
+    large = b"".join(put(b"f%d" % number, own_body(b"some text\n" * 60_000, number)) + b"publish\n" for number in range(9))
     most, all_of_them = most_of_a_thread(runs, large + b"search e.*z\n")
     yield "instructions of the thread that does most of a search", most, all_of_them // 4, all_of_them // 2
-    two = b"".join(put(b"f%d" % number, b"some text\n" * 100_000) + b"publish\n" for number in range(2))
+    two = b"".join(put(b"f%d" % number, own_body(b"some text\n" * 100_000, number)) + b"publish\n" for number in range(2))
     most, all_of_them = most_of_a_thread(runs, two + b"search e.*z\n")
     yield "instructions of the thread that does most of a search of two bodies", most, all_of_them // 3, all_of_them * 2 // 3
 
@@ -1177,10 +1217,10 @@ def most_of_a_thread(runs, script):
 
 def parts_of_a_search_are_gone_through_once(runs):
     """Also where a limit is gone beyond in the last of three parts."""
-    large = b"".join(put(b"f%d" % number, b"some text\n" * 60_000 + b"end\n" * (number == 8) * 10) + b"publish\n" for number in range(9))
+    large = b"".join(put(b"f%d" % number, own_body(b"some text\n" * 60_000 + b"end\n" * (number == 8) * 10, number)) + b"publish\n" for number in range(9))
     limited, whole = (sum(runs.instructions_of_threads(SCRIPT_BESIDE, large + b"find %s-- n.*d\n" % words)) for words in (b"-m 1 ", b""))
     yield "instructions of a search with a limit", limited, whole // 2, whole * 5 // 4
-    large = b"".join(put(b"f%d" % number, b"some text\n" * 60_000 + b"end\n") + b"publish\n" for number in range(9))
+    large = b"".join(put(b"f%d" % number, own_body(b"some text\n" * 60_000 + b"end\n", number)) + b"publish\n" for number in range(9))
     with_hits = sum(runs.instructions_of_threads(SCRIPT_BESIDE, large + b"find -- n.*d\n"))
     yield "instructions of a search with hits in each part", with_hits, whole // 2, whole * 5 // 4
 
@@ -1209,7 +1249,7 @@ def copies_are_brought_up_to_date_once(runs):
 def small_documents_are_searched_as_a_large_one(runs):
     """Beyond the first 8 KiB, lines are not looked at one by one, however small the documents are."""
     one = put(b"a", b"some text\n" * 20_000) + b"publish\n" * 3
-    many = b"".join(put(b"f%d" % number, b"some text\n" * 50) for number in range(400)) + b"publish\n" * 3
+    many = b"".join(put(b"f%d" % number, own_body(b"some text\n" * 50, number)) for number in range(400)) + b"publish\n" * 3
     large, small = (runs.instructions(SESSION, script + b"search [a-z]*x$\n" * 10) - runs.instructions(SESSION, script) for script in (one, many))
     yield "instructions of searches of small documents", small, 0, 2 * large
 
@@ -1238,7 +1278,7 @@ def memory_of_what_is_short(runs):
     wide = put(b"a", (b"x" * 16_000 + b"\n") * 64) + b"publish\n"
     one, many = (runs.memory(SCRIPT_BESIDE, wide + b"search x\n" * count).most for count in (1, 16))
     yield "bytes in use at once for 15 more answers of 1 MB in a run", many - one, -one, 3_000_000
-    wide = b"".join(put(b"f%d" % number, (b"x" * 16_000 + b"\n") * 64) for number in range(6)) + b"publish\n"
+    wide = b"".join(put(b"f%d" % number, own_body((b"x" * 16_000 + b"\n") * 64, number)) for number in range(6)) + b"publish\n"
     none, answered = (runs.memory(SESSION_BESIDE, wide + search, 700_000).large for search in (b"", b"search x\n"))
     yield "requests of 700,000 bytes for an answer that is formed in three parts", answered - none, 0, 0
 
@@ -1315,6 +1355,7 @@ CHECKS = [
     candidates_behind_a_limit_are_not_taken,
     patterns_are_compiled_once,
     lines_are_matched_once,
+    contents_are_matched_once,
     simulations_are_made_once,
     simulations_read_no_more_than_they_must,
     simulations_are_small,

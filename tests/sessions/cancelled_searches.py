@@ -19,7 +19,7 @@ import time
 
 sys.path.insert(0, str(pathlib.Path(__file__).resolve().parent.parent))
 
-from built import PROGRAM, TOP, put  # noqa: E402
+from built import PROGRAM, TOP, own_body, put  # noqa: E402
 from counted import Wrong, run_tests  # noqa: E402
 from judge import transcripts  # noqa: E402
 from live import MEBIBYTE, QUIET, SECONDS, Session, expect_threads, faults_with_each, same  # noqa: E402
@@ -38,7 +38,7 @@ LETTERS = bytes(b"ab"[byte % 2] for byte in range(256))
 def long_bodies():
     source = random.Random(1)
     body = b"".join(b"x" + source.randbytes(LENGTH).translate(LETTERS) + b"\n" for _ in range(2))
-    return {b"long%04d" % number: body for number in range(MANY)}
+    return {b"long%04d" % number: own_body(body, number) for number in range(MANY)}
 
 
 LONG_BODIES = long_bodies()

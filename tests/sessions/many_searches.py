@@ -19,7 +19,7 @@ import time
 
 sys.path.insert(0, str(pathlib.Path(__file__).resolve().parent.parent))
 
-from built import PROGRAM, put  # noqa: E402
+from built import PROGRAM, own_body, put  # noqa: E402
 from counted import Wrong, run_tests  # noqa: E402
 from live import MEBIBYTE, SECONDS, Session, faults_with_each  # noqa: E402
 from sessions.slow_searches import SLOW, slow_body  # noqa: E402
@@ -232,7 +232,7 @@ def few_searches_of_a_run_are_open():
 def bodies_behind_a_sync(start):
     """While a search is at work, at most 16 of the items behind a sync are read ahead. Each body has a byte 0, so none of them is kept."""
     count, body = 100, b"x" * (MEBIBYTE - 1) + b"\0"
-    documents = b"".join(put(b"slow%d" % number, slow_body(2, 16_000)) for number in range(8)) + b"publish\n"
+    documents = b"".join(put(b"slow%d" % number, own_body(slow_body(2, 16_000), number)) for number in range(8)) + b"publish\n"
     with start() as session:
         session.send(documents)
         session.ask(b"search nothing\n", b"search 1 version 8 lines 0\n")
@@ -250,7 +250,8 @@ def bodies_behind_a_sync(start):
 
 def few_items_behind_a_sync_are_read():
     """While a search is at work, a session reads at most 16 items ahead: a sync behind the search, and 15 puts."""
-    documents = b"".join(put(b"slow%d" % number, slow_body(60, 16_000)) for number in range(20)) + b"publish\n"
+    body = slow_body(60, 16_000)
+    documents = b"".join(put(b"slow%d" % number, own_body(body, number)) for number in range(20)) + b"publish\n"
     text = put(b"a", b"x" * (MEBIBYTE - 1))
     with Session("--readers", "1") as session:
         session.send(documents + b"searchin ^slow " + SLOW + b"\nsync\n")

@@ -20,7 +20,7 @@ import time
 
 sys.path.insert(0, str(pathlib.Path(__file__).resolve().parent.parent))
 
-from built import PROGRAM, TOP, put  # noqa: E402
+from built import PROGRAM, TOP, own_body, put  # noqa: E402
 from counted import Wrong, run_tests  # noqa: E402
 from judge import transcripts  # noqa: E402
 from live import GREATEST_LINE, MEBIBYTE, SECONDS, Session, faults_with_each, same, send_all  # noqa: E402
@@ -46,7 +46,13 @@ def slow_body(lines, length):
     return b"".join(b"x" + bytes(source.choices(b"ab", k=length - 2)) + b"\n" for _ in range(lines)) + b"end\n"
 
 
-LONG_BODIES = dict.fromkeys((b"slow%02d" % number for number in range(LONG_DOCUMENTS)), slow_body(64, 16_000))
+def long_bodies():
+    """Bodies that differ, since one that several documents have is matched once."""
+    body = slow_body(64, 16_000)
+    return {b"slow%02d" % number: own_body(body, number) for number in range(LONG_DOCUMENTS)}
+
+
+LONG_BODIES = long_bodies()
 
 # A search of the first is slow, and one of the second long.
 SHORT, LONG = put(b"slow", slow_body(2, 16_000)) + b"publish\n", b"".join(put(*pair) for pair in LONG_BODIES.items()) + b"publish\n"
@@ -106,10 +112,10 @@ def items_are_taken_while_every_reader_is_at_work():
 
 def slow_searches_are_stopped_for_later_ones():
     """They are stopped between documents, while others are published and found, and have the lines of their own version."""
-    documents = [b"slow%d" % number for number in range(6)]
+    documents, body = [b"slow%d" % number for number in range(6)], slow_body(1, 16_000)
     for readers in 1, 2:
         with Session("--readers", str(readers)) as session:
-            session.send(b"".join(put(name, slow_body(1, 16_000)) for name in documents) + b"publish\n" + SLOW_SEARCH * 4)
+            session.send(b"".join(put(name, own_body(body, number)) for number, name in enumerate(documents)) + b"publish\n" + SLOW_SEARCH * 4)
             for number in range(5, 25):
                 session.send(put(b"new", b"hello %d" % number) + b"publish\nsearchin ^new hello\n")
             for _ in range(24):

@@ -25,12 +25,17 @@ SECONDS = 60.0
 SLOW = r"x([ab]|a([ab]{250}){15}c|d$)*e|^end$"
 
 
-def slow_documents(count: int = 100, length: int = 1_500) -> dict[str, bytes]:
+def slow_documents(count: int = 100, length: int = 1_500, seed: int = 1) -> dict[str, bytes]:
     """Documents of random lines, in which the slow pattern looks at each byte, and one line that it finds. A search that is cancelled
-    goes on with the document at which it is, so these are short."""
-    source = random.Random(1)
+    goes on with the document at which it is, so these are short. Those of another seed have other bodies: the same are matched once."""
+    source = random.Random(seed)
     found = {f"slow/{number}": b"x" + bytes(source.choices(b"ab", k=length)) + b"\n" for number in range(count)}
     return {**found, "slow/end": b"end\n"}
+
+
+def slow_file(number: int) -> bytes:
+    """A line in which the slow pattern looks at each byte. No other number has the same: that would be matched once."""
+    return b"xab" * 5_000 + f"{number:010b}".translate({48: "a", 49: "b"}).encode() + b"\n"
 
 
 def until(holds, seconds: float = SECONDS) -> None:

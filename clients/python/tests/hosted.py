@@ -7,6 +7,7 @@ import tempfile
 import urllib.parse
 
 from browsing import Browsing
+from helpers import slow_file
 from made import Made
 from serving import serving_in
 
@@ -29,7 +30,7 @@ class Hosted(Browsing):
     def serve(cls):
         top = pathlib.Path(cls.enterClassContext(tempfile.TemporaryDirectory()))
         cls.made = Made(top / "made.git")
-        cls.first = cls.made.commit("main", FILES | {b"slow/%d" % number: b"xab" * 5_000 + b"\n" for number in range(1_000)})
+        cls.first = cls.made.commit("main", FILES | {b"slow/%d" % number: slow_file(number) for number in range(1_000)})
         cls.made.commit("topic/x", {b"src/util.c": b"int call(int x)\n{\n    int more;\n    return x + more;\n}\n", b"src/new.c": b"int more;\n"}, start="main")
         cls.other = Made(top / "other.git")
         cls.other.commit("main", {b"many.txt": FILES[b"many.txt"], b"few.txt": b"int few;\n"})

@@ -104,7 +104,7 @@ class Server:
             self.find(SLOW, repository=repository)
             if time.monotonic() - began >= seconds:
                 return
-            more, before = slow_documents(100 << turn), self.documents(repository)
+            more, before = slow_documents(100 << turn, seed=turn + 2), self.documents(repository)
             (self.top / f"{repository}/more-{turn}/slow").mkdir(parents=True)
             for name, body in more.items():
                 (self.top / f"{repository}/more-{turn}/{name}").write_bytes(body)

@@ -10,7 +10,7 @@ import socket
 import time
 import unittest
 
-from helpers import SECONDS, SLOW, stopped, until
+from helpers import SECONDS, SLOW, slow_file, stopped, until
 from serving import Server
 from test_host import NO_REASON, REASON, Host
 
@@ -83,7 +83,7 @@ class Visitors(Host):
 
     def test_two_searches_of_one_visitor_at_a_time(self) -> None:
         """Those of others do not wait for them, and too many are refused. A proxy says who asks, if it is one that is named."""
-        self.made.commit("main", {b"slow/%d" % number: b"xab" * 5_000 + b"\n" for number in range(200)})
+        self.made.commit("main", {b"slow/%d" % number: slow_file(number) for number in range(200)})
         server = self.serve("--proxy", "127.0.0.1", "--search-ms", "4000", "--readers", "4", str(self.made.path))
         same = [{"X-Forwarded-For": named} for named in ("spoofed, 2001:db8::1", "2001:db8::2")]
         with concurrent.futures.ThreadPoolExecutor(42) as pool:

@@ -1,7 +1,7 @@
 -- A few documents, found by their numbers and sorted by their names.
-use Rattle.std.proofs.Common.{◌≡◌, ◌≢◌, ℕ, suc, ◌+◌, ◌<◌, ◌≤◌, ◌==◌, ◌||◌, ◌⊎◌, inl, inr, Bool, true, false, cond, ◌++◌, List, [], ◌∷◌, map, length, take, drop}
-use Rattle.std.proofs.Common.{get_or, Some, refl, sym, ◌∙◌, ap, subst, arith, append_assoc}
-use Rattle.std.specs.Prelude.{All, AllPairs, filter}
+use Rattle.std.proofs.Common.{◌≡◌, ◌≢◌, ℕ, suc, ◌+◌, ◌<◌, ◌≤◌, ◌==◌, ◌||◌, ◌&&◌, ◌⊎◌, inl, inr, Bool, true, false, cond, ◌++◌, List, [], ◌∷◌, map, length, take, drop}
+use Rattle.std.proofs.Common.{get_or, Some, refl, sym, ◌∙◌, ap, subst, arith, append_assoc, Contains}
+use Rattle.std.specs.Prelude.{AllPairs, filter, sum}
 use Rattle.std.specs.List.{AllByRecursion, swap}
 use Rattle.std.specs.List.Sorted.{IsPermutation, IsSortedBy, IsStrictlySortedBy, IsStrictlyIncreasing}
 use Rattle.std.specs.Ordering.{nat_cmp, is_lt, is_eq, ordering_reverse}
@@ -10,84 +10,131 @@ use Rattle.std.specs.declared.cmp.Ordering.TheVariants.{Less, Equal, Greater}
 use Rattle.std.specs.Cmp.Lexicographic.{slice_cmp, nat_list_cmp_total, texts_ties}
 use Rattle.std.proofs.lemmas.Bool.{false≢true, cases_lt, cases_eq}
 use Rattle.std.proofs.lemmas.Bool.Decides.{nat_tests}
-use Rattle.std.proofs.lemmas.List.{length-map, get_or-map, append-nil, drop_all, length-take, map-append, take-append-drop}
+use Rattle.std.proofs.lemmas.List.{length-append, length-map, get_or-map, append-nil, drop_all, length-take, map-append, take-append-drop}
 use Rattle.std.proofs.lemmas.List.Edits.{Swapped, swapped_from_swap, length-swap}
 use Rattle.std.proofs.lemmas.List.Elements.{filter-append}
+use Rattle.std.proofs.lemmas.List.Sums.{sum_by-cons}
 use Rattle.std.proofs.lemmas.List.Kept.{AllPairs-from_increasing}
+use Rattle.std.proofs.lemmas.List.Sorted.{IsPermutation-refl, IsPermutation-cons, IsPermutation-trans, IsPermutation-middle, IsPermutation-append_right, length_permutation}
 use Rattle.std.proofs.lemmas.List.Sorted.{IsPermutation-keeps, IsPermutation-map, Contains-permutation, IsPermutation-sym, sorted_far, ranks_by}
 use Rattle.posting.specs.ListValue.{has}
 use Rattle.posting.proofs.SetLemmas.{contains-has}
 use Rattle.index.specs.declared.document.SharedDocument.{SharedDocument}
-use Rattle.index.specs.Private.Numbered.{Document, document, document_at, is_under, AreFirstInNameOrder, IsInNameOrder}
+use Rattle.index.specs.Private.Numbered.{Document, number_of, AreFirstInNameOrder, IsInNameOrder}
 use Rattle.prefixes.specs.Under.{begins_with}
 use Rattle.index.specs.Private.Numbered.{document_of, documents_shared}
-use Rattle.index.specs.Private.Chosen.{numbered_document, document_numbered, documents_numbered}
-use Rattle.index.proofs.DocumentLemmas.{same_name, filter_same}
-use Rattle.index.proofs.StoredLemmas.{Numbered, document_at-none}
-use Rattle.index.proofs.UnderLemmas.{Behind, Behind-tail, picked, picked-none, picked-keep, picked-skip}
+use Rattle.index.specs.Private.Chosen.{document_numbered, documents_numbered, document_named, documents_named}
+use Rattle.index.proofs.DocumentLemmas.{same_name, filter_same, Contains-head, Contains-tail}
+use Rattle.index.proofs.UnderLemmas.{filter_twice, Behind, Behind-tail, picked, picked-none, picked-keep, picked-skip}
 
 -- ---- found by their numbers
 
--- a number below those of all documents finds none
-none_below : (ds : List Document) (number : ℕ) → All (λ d. number < d.number) ds → document_numbered ds number ≡ []
-none_below ds number above = ap (numbered_document number) (document_at-none number ds (λ k d inside. (let low = above k d inside in λ e. omega arith)))
-
-one_more : (ds : List Document) → Numbered ds → (number : ℕ) (numbers : List ℕ) → ((m : ℕ) → has numbers m ≡ true → number < m)
-    → document_numbered ds number ++ filter (λ d. has numbers d.number) ds ≡ filter (λ d. has (number ∷ numbers) d.number) ds
-unfolding document_at
-one_more [] numbered number numbers above = refl
-one_more (d ∷ ds) numbered number numbers above =
-    go (d.number == number) refl (has numbers d.number) refl (one_more ds numbered.1 number numbers above)
+filter_swap : (p q : Document → Bool) (ds : List Document) → filter p (filter q ds) ≡ filter q (filter p ds)
+filter_swap p q ds =
+    filter_twice q p ds ∙ filter_same (λ d. q d && p d) (λ d. p d && q d) ds (λ d there. swapped (q d) (p d)) ∙ sym (filter_twice p q ds)
   where
-    -- the number is none of those of the later documents
-    passed : All (λ e. number < e.number) ds → filter (λ e. has numbers e.number) ds ≡ filter (λ e. has (number ∷ numbers) e.number) ds
-    passed later =
-        filter_same (λ e. has numbers e.number) (λ e. has (number ∷ numbers) e.number) ds (λ e there.
-        (let low = later there.0 e there.1 in
-        let is : (get_or ds there.0 e).number ≡ e.number = ap (λ x. x.number) there.2 in
-        let apart : (number == e.number) ≡ false = grind (arith, nat_tests) in
-        rw apart refl))
+    swapped : (a b : Bool) → (a && b) ≡ (b && a)
+    swapped true true = refl
+    swapped true false = refl
+    swapped false true = refl
+    swapped false false = refl
 
-    go : (t : Bool) → (d.number == number) ≡ t → (u : Bool) → has numbers d.number ≡ u
-        → document_numbered ds number ++ filter (λ e. has numbers e.number) ds ≡ filter (λ e. has (number ∷ numbers) e.number) ds
-        → numbered_document number (cond t (Some (d.name, d.body)) (document_at number ds))
-        ++ cond u (d ∷ filter (λ e. has numbers e.number) ds) (filter (λ e. has numbers e.number) ds)
-        ≡ cond (number == d.number || u) (d ∷ filter (λ e. has (number ∷ numbers) e.number) ds) (filter (λ e. has (number ∷ numbers) e.number) ds)
-    go true e true h deeper =
-        let same : d.number ≡ number = grind (arith, nat_tests) in
-        let low = above d.number h in
-        absurd (omega arith)
-    go true e false h deeper =
-        let same : d.number ≡ number = grind (arith, nat_tests) in
-        let here : (number == d.number) ≡ true = grind (arith, nat_tests) in
-        rw here (ap (λ n. document n d.name d.body ∷ filter (λ e. has numbers e.number) ds) (sym same)
-        ∙ ap (λ xs. d ∷ xs) (passed (λ k x inside. (let low = numbered.0 k x inside in omega arith))))
-    go false e true h deeper =
-        let low = above d.number h in
-        let apart : (number == d.number) ≡ false = grind (arith, nat_tests) in
-        let later : All (λ x. number < x.number) ds = λ k x inside. (let next = numbered.0 k x inside in omega arith) in
-        rw apart (ap (λ xs. xs ++ d ∷ filter (λ e. has numbers e.number) ds) (none_below ds number later) ∙ ap (λ xs. d ∷ xs) (passed later))
-    go false e false h deeper =
-        let apart : (number == d.number) ≡ false = grind (arith, nat_tests) in
-        rw apart deeper
+-- elements that pass one of two tests, which none passes both
+filter_either : (p q : Document → Bool) → ((d : Document) → p d ≡ true → q d ≡ false) → (ds : List Document)
+    → IsPermutation (filter p ds ++ filter q ds) (filter (λ d. p d || q d) ds)
+filter_either p q apart [] = IsPermutation-refl []
+filter_either p q apart (x ∷ ds) = go (p x) refl (q x) refl (filter_either p q apart ds)
+  where
+    rest : List Document
+    rest = filter (λ d. p d || q d) ds
+
+    go : (t : Bool) → p x ≡ t → (u : Bool) → q x ≡ u → IsPermutation (filter p ds ++ filter q ds) rest
+        → IsPermutation (cond t (x ∷ filter p ds) (filter p ds) ++ cond u (x ∷ filter q ds) (filter q ds)) (cond (t || u) (x ∷ rest) rest)
+    go true e true f deeper = absurd (false≢true (sym (apart x e) ∙ f))
+    go true e false f deeper = IsPermutation-cons x (filter p ds ++ filter q ds) rest deeper
+    go false e true f deeper =
+        IsPermutation-trans (filter p ds ++ x ∷ filter q ds) (x ∷ (filter p ds ++ filter q ds)) (x ∷ rest)
+        (IsPermutation-middle (filter p ds) x (filter q ds)) (IsPermutation-cons x (filter p ds ++ filter q ds) rest deeper)
+    go false e false f deeper = deeper
 
 none_of : (ds : List Document) → [] ≡ filter (λ d. has [] d.number) ds
 none_of [] = refl
 none_of (d ∷ ds) = none_of ds
 
--- they are the documents with these numbers, in the order of the numbers
-pub numbered-filter : (ds : List Document) → Numbered ds → (numbers : List ℕ) → IsStrictlyIncreasing numbers
-    → documents_numbered ds numbers ≡ filter (λ d. has numbers d.number) ds
-numbered-filter ds numbered numbers rise = go numbers (AllPairs-from_increasing numbers rise)
+same_either_way : (a b : ℕ) → (a == b) ≡ (b == a)
+same_either_way a b = grind (arith, nat_tests)
+
+-- they are the documents with these numbers, in another order
+pub numbered-permuted : (ds : List Document) (numbers : List ℕ) → IsStrictlyIncreasing numbers
+    → IsPermutation (documents_numbered ds numbers) (filter (λ d. has numbers d.number) ds)
+numbered-permuted ds numbers rise = go numbers (AllPairs-from_increasing numbers rise)
   where
-    go : (numbers : List ℕ) → AllPairs (λ x y. x < y) numbers → documents_numbered ds numbers ≡ filter (λ d. has numbers d.number) ds
-    go [] less = none_of ds
+    apart : (number : ℕ) (numbers : List ℕ) → AllPairs (λ x y. x < y) (number ∷ numbers) → (d : Document) → (d.number == number) ≡ true
+        → has numbers d.number ≡ false
+    apart number numbers less d same = pick (has numbers d.number) refl
+      where
+        pick : (t : Bool) → has numbers d.number ≡ t → t ≡ false
+        pick false e = refl
+        pick true e =
+            let at = contains-has numbers d.number e in
+            let low : number < get_or numbers at.0 d.number = less 0 (suc at.0) d.number (omega arith) (omega (arith, at.1)) in
+            let is : d.number ≡ number = grind (arith, nat_tests) in
+            absurd (omega (arith, at.2))
+
+    go : (numbers : List ℕ) → AllPairs (λ x y. x < y) numbers
+        → IsPermutation (documents_numbered ds numbers) (filter (λ d. has numbers d.number) ds)
+    go [] less = subst (IsPermutation []) (none_of ds) (IsPermutation-refl [])
     go (number ∷ numbers) less =
-        ap (λ xs. document_numbered ds number ++ xs) (go numbers (λ i j d before inside. less (suc i) (suc j) d (omega arith) (omega arith)))
-        ∙ one_more ds numbered number numbers (λ m h.
-        (let at = contains-has numbers m h in
-        let low : number < get_or numbers at.0 m = less 0 (suc at.0) m (omega arith) (omega (arith, at.1)) in
-        omega (arith, at.2)))
+        let here = document_numbered ds number in
+        let others = filter (λ d. has numbers d.number) ds in
+        IsPermutation-trans (here ++ documents_numbered ds numbers) (here ++ others) (filter (λ d. has (number ∷ numbers) d.number) ds)
+        (IsPermutation-append_right here (documents_numbered ds numbers) others
+        (go numbers (λ i j d before inside. less (suc i) (suc j) d (omega arith) (omega arith))))
+        (subst (IsPermutation (here ++ others))
+        (filter_same (λ d. d.number == number || has numbers d.number) (λ d. has (number ∷ numbers) d.number) ds
+        (λ d there. ap (λ t. t || has numbers d.number) (same_either_way d.number number)))
+        (filter_either (λ d. d.number == number) (λ d. has numbers d.number) (apart number numbers less) ds))
+
+numbered-filter : (p : Document → Bool) (ds : List Document) (numbers : List ℕ)
+    → filter p (documents_numbered ds numbers) ≡ documents_numbered (filter p ds) numbers
+numbered-filter p ds [] = refl
+numbered-filter p ds (number ∷ numbers) =
+    filter-append p (document_numbered ds number) (documents_numbered ds numbers)
+    ∙ ap (λ xs. xs ++ filter p (documents_numbered ds numbers)) (filter_swap p (λ d. d.number == number) ds)
+    ∙ ap (λ xs. document_numbered (filter p ds) number ++ xs) (numbered-filter p ds numbers)
+
+-- those of them use Rattle.watch
+pub numbered-chosen : (p : Document → Bool) (ds : List Document) (numbers : List ℕ) → IsStrictlyIncreasing numbers
+    → IsPermutation (filter p (documents_numbered ds numbers)) (filter (λ d. has numbers d.number && p d) ds)
+numbered-chosen p ds numbers rise =
+    subst (λ xs. IsPermutation xs (filter (λ d. has numbers d.number && p d) ds)) (sym (numbered-filter p ds numbers))
+    (subst (IsPermutation (documents_numbered (filter p ds) numbers))
+    (filter_swap (λ d. has numbers d.number) p ds ∙ filter_twice (λ d. has numbers d.number) p ds) (numbered-permuted (filter p ds) numbers rise))
+
+length-numbered : (ds : List Document) (numbers : List ℕ) → length (documents_numbered ds numbers) ≡ sum (map (λ n. length (document_numbered ds n)) numbers)
+length-numbered ds [] = refl
+length-numbered ds (number ∷ numbers) =
+    length-append (document_numbered ds number) (documents_numbered ds numbers)
+    ∙ ap (λ n. length (document_numbered ds number) + n) (length-numbered ds numbers)
+    ∙ sym (sum-cons (length (document_numbered ds number)) (map (λ n. length (document_numbered ds n)) numbers))
+  where
+    sum-cons : (n : ℕ) (ns : List ℕ) → sum (n ∷ ns) ≡ n + sum ns
+    sum-cons n ns = sum_by-cons (λ x. x) n ns
+
+-- how many they are, where for each number its count is known
+pub count-numbered : (ds : List Document) (count : ℕ → ℕ) (numbers : List ℕ) → IsStrictlyIncreasing numbers
+    → ((n : ℕ) → Contains numbers n → count n ≡ length (document_numbered ds n))
+    → sum (map count numbers) ≡ length (filter (λ d. has numbers d.number) ds)
+count-numbered ds count numbers rise each =
+    ap sum (all numbers each)
+    ∙ sym (length-numbered ds numbers)
+    ∙ sym (length_permutation (documents_numbered ds numbers) (filter (λ d. has numbers d.number) ds) (numbered-permuted ds numbers rise))
+  where
+    all : (ns : List ℕ) → ((n : ℕ) → Contains ns n → count n ≡ length (document_numbered ds n)) → map count ns ≡ map (λ n. length (document_numbered ds n)) ns
+    all [] each = refl
+    all (n ∷ ns) each =
+        ap (λ k. k ∷ map count ns) (each n (Contains-head n ns))
+        ∙ ap (λ ks. length (document_numbered ds n) ∷ ks) (all ns (λ k there. each k (Contains-tail n ns k there)))
 
 -- the documents with one more number that pass the test, before those with the numbers that are left
 pub numbered-more : (p : Document → Bool) (ds old new all : List Document) (left rest : List ℕ) (number : ℕ) → left ≡ number ∷ rest
@@ -103,50 +150,76 @@ pub numbered-end : (p : Document → Bool) (ds old all : List Document) (left : 
     → old ≡ all
 numbered-end p ds old all left none so_far = sym (append-nil old) ∙ (ap (λ ns. old ++ filter p (documents_numbered ds ns)) (sym none) ∙ so_far)
 
--- The documents taken so far, and those with the numbers that will be picked from the entries that are left, are all.
+-- the documents of one more name that pass the test, before those of the names that are left
+pub names-more : (p : Document → Bool) (f : List ℕ → Document) (old new all : List Document) (left rest : List (List ℕ)) (name : List ℕ)
+    → left ≡ name ∷ rest → new ≡ old ++ filter p (f name ∷ []) → old ++ filter p (map f left) ≡ all → new ++ filter p (map f rest) ≡ all
+names-more p f old new all left rest name next grown so_far =
+    ap (λ xs. xs ++ filter p (map f rest)) grown
+    ∙ (append_assoc old (filter p (f name ∷ [])) (filter p (map f rest))
+    ∙ (ap (λ xs. old ++ xs) (sym (filter-append p (f name ∷ []) (map f rest))) ∙ (ap (λ ns. old ++ filter p (map f ns)) (sym next) ∙ so_far)))
+
+pub names-end : (p : Document → Bool) (f : List ℕ → Document) (old all : List Document) (left : List (List ℕ)) → left ≡ []
+    → old ++ filter p (map f left) ≡ all → old ≡ all
+names-end p f old all left none so_far = sym (append-nil old) ∙ (ap (λ ns. old ++ filter p (map f ns)) (sym none) ∙ so_far)
+
+-- The documents taken so far, and those with the names that will be picked from the entries that are left, are all.
 pub record AreTaken (ds : List Document) (test : ℕ → Bool) (text : List ℕ) (taken : List Document) (left all : List (List ℕ × ℕ)) : Type 0 where
-  pub so_far : taken ++ filter (is_under text) (documents_numbered ds (picked test text left))
-      ≡ filter (is_under text) (documents_numbered ds (picked test text all))
+  pub so_far : taken ++ documents_named ds (picked test text left) ≡ documents_named ds (picked test text all)
   pub behind : Behind text left
+  pub found : (e : List ℕ × ℕ) → Contains left e → number_of e.0 ds ≡ Some e.1
 
 module _ (ds : List Document) (test : ℕ → Bool) (text : List ℕ) (all : List (List ℕ × ℕ)) where
-  pub taken-none : (old : List Document) → old ≡ [] → Behind text all → AreTaken ds test text old all all
-  taken-none old none behind = record {
-    so_far = ap (λ xs. xs ++ filter (is_under text) (documents_numbered ds (picked test text all))) none;
+  -- the entries that are left are still found
+  found_later : (left rest : List (List ℕ × ℕ)) (e : List ℕ × ℕ) → left ≡ e ∷ rest → ((f : List ℕ × ℕ) → Contains left f → number_of f.0 ds ≡ Some f.1)
+      → (f : List ℕ × ℕ) → Contains rest f → number_of f.0 ds ≡ Some f.1
+  found_later left rest e next found f there = found f (subst (λ es. Contains es f) (sym next) (Contains-tail e rest f there))
+
+  pub taken-none : (old : List Document) → old ≡ [] → Behind text all → ((e : List ℕ × ℕ) → Contains all e → number_of e.0 ds ≡ Some e.1)
+      → AreTaken ds test text old all all
+  taken-none old none behind found = record {
+    so_far = ap (λ xs. xs ++ documents_named ds (picked test text all)) none;
     behind = behind;
+    found = found;
   }
 
   pub taken-keep : (old new : List Document) (left rest : List (List ℕ × ℕ)) (name : List ℕ) (number : ℕ) → left ≡ (name, number) ∷ rest
-      → test number ≡ true → begins_with text name ≡ true → new ≡ old ++ filter (is_under text) (document_numbered ds number)
-      → AreTaken ds test text old left all → AreTaken ds test text new rest all
+      → test number ≡ true → begins_with text name ≡ true → new ≡ old ++ document_named ds name → AreTaken ds test text old left all
+      → AreTaken ds test text new rest all
   taken-keep old new left rest name number next passes begins grown taken = record {
     so_far =
-        numbered-more (is_under text) ds old new (filter (is_under text) (documents_numbered ds (picked test text all))) (picked test text left)
-        (picked test text rest) number (picked-keep test text left rest name number next passes begins) grown taken.so_far;
+        ap (λ xs. xs ++ documents_named ds (picked test text rest)) grown
+        ∙ (append_assoc old (document_named ds name) (documents_named ds (picked test text rest))
+        ∙ (ap (λ ns. old ++ documents_named ds ns) (sym (picked-keep test text left rest name number next passes begins)) ∙ taken.so_far));
     behind = Behind-tail text left rest name number next taken.behind;
+    found = found_later left rest (name, number) next taken.found;
   }
 
   pub taken-skip : (old : List Document) (left rest : List (List ℕ × ℕ)) (name : List ℕ) (number : ℕ) → left ≡ (name, number) ∷ rest
       → test number ≡ false → AreTaken ds test text old left all → AreTaken ds test text old rest all
   taken-skip old left rest name number next fails taken = record {
     so_far =
-        ap (λ ns. old ++ filter (is_under text) (documents_numbered ds ns)) (sym (picked-skip test text left rest name number next fails))
-        ∙ taken.so_far;
+        ap (λ ns. old ++ documents_named ds ns) (sym (picked-skip test text left rest name number next fails)) ∙ taken.so_far;
     behind = Behind-tail text left rest name number next taken.behind;
+    found = found_later left rest (name, number) next taken.found;
   }
 
+  pub found_next : (old : List Document) (left rest : List (List ℕ × ℕ)) (name : List ℕ) (number : ℕ) → left ≡ (name, number) ∷ rest
+      → AreTaken ds test text old left all → number_of name ds ≡ Some number
+  found_next old left rest name number next taken =
+      taken.found (name, number) (subst (λ es. Contains es (name, number)) (sym next) (Contains-head (name, number) rest))
+
+  no_more : (old : List Document) (left : List (List ℕ × ℕ)) → picked test text left ≡ [] → AreTaken ds test text old left all
+      → old ≡ documents_named ds (picked test text all)
+  no_more old left none taken = sym (append-nil old) ∙ (ap (λ ns. old ++ documents_named ds ns) (sym none) ∙ taken.so_far)
+
   pub taken-stop : (old : List Document) (left rest : List (List ℕ × ℕ)) (name : List ℕ) (number : ℕ) → left ≡ (name, number) ∷ rest
-      → begins_with text name ≡ false → AreTaken ds test text old left all
-      → old ≡ filter (is_under text) (documents_numbered ds (picked test text all))
+      → begins_with text name ≡ false → AreTaken ds test text old left all → old ≡ documents_named ds (picked test text all)
   taken-stop old left rest name number next other taken =
-      numbered-end (is_under text) ds old (filter (is_under text) (documents_numbered ds (picked test text all))) (picked test text left)
-      (picked-none test text left rest name number next taken.behind other) taken.so_far
+      no_more old left (picked-none test text left rest name number next taken.behind other) taken
 
   pub taken-end : (old : List Document) (left : List (List ℕ × ℕ)) → left ≡ [] → AreTaken ds test text old left all
-      → old ≡ filter (is_under text) (documents_numbered ds (picked test text all))
-  taken-end old left none taken =
-      numbered-end (is_under text) ds old (filter (is_under text) (documents_numbered ds (picked test text all))) (picked test text left)
-      (ap (picked test text) none) taken.so_far
+      → old ≡ documents_named ds (picked test text all)
+  taken-end old left none taken = no_more old left (ap (picked test text) none) taken
 
 -- ---- the first by their names
 
@@ -291,11 +364,12 @@ names_sorted (s ∷ shared) sorted = λ k d low inside.
 
 -- the documents that were chosen, once they are sorted by their names
 pub few_in_order : (chosen : List Document) → AllPairs (λ d e. d.name ≢ e.name) chosen → (old new : List SharedDocument)
-    → documents_shared old ≡ chosen → IsPermutation old new → IsSortedBy (λ x y. is_lt (slice_cmp nat_cmp x.name y.name)) new
+    → IsPermutation (documents_shared old) chosen → IsPermutation old new → IsSortedBy (λ x y. is_lt (slice_cmp nat_cmp x.name y.name)) new
     → IsInNameOrder chosen (documents_shared new)
 few_in_order chosen differ old new are moved sorted =
     let same : IsPermutation chosen (documents_shared new) =
-    subst (λ ds. IsPermutation ds (documents_shared new)) are (IsPermutation-map document_of old new moved) in
+    IsPermutation-trans chosen (documents_shared old) (documents_shared new) (IsPermutation-sym (documents_shared old) chosen are)
+    (IsPermutation-map document_of old new moved) in
     let names = IsPermutation-map (λ d. d.name) chosen (documents_shared new) same in
     record {
       rises =

@@ -1,12 +1,11 @@
 -- Names, and which documents a list has.
 use Rattle.std.proofs.Common.{◌≡◌, ℕ, zero, suc, ◌<◌, ◌⊎◌, inl, inr, Bool, true, false, cond, List, [], ◌∷◌, map, length, get_or}
-use Rattle.std.proofs.Common.{Some, Contains, refl, sym, ◌∙◌, ap, subst, arith}
-use Rattle.std.specs.Prelude.{All, bytes_eq, filter, is_some}
+use Rattle.std.proofs.Common.{Some, Contains, refl, ◌∙◌, ap, subst, arith}
+use Rattle.std.specs.Prelude.{All, bytes_eq, filter}
 use Rattle.std.specs.Cmp.Lexicographic.{bytes_decides}
 use Rattle.std.proofs.lemmas.Cmp.{nat_list_eq_equiv}
-use Rattle.std.proofs.lemmas.Bool.{false≢true}
 use Rattle.std.proofs.lemmas.List.Elements.{All-map}
-use Rattle.index.specs.Private.Numbered.{Document, document, number_of, is_taken}
+use Rattle.index.specs.Private.Numbered.{Document, document, number_of}
 pub use Rattle.query.proofs.OrderLemmas.{Contains-filter, Contains-from_filter as filter-Contains}
 
 pub same_name : (x y : List ℕ) → bytes_eq x y ≡ true → x ≡ y
@@ -83,20 +82,6 @@ Contains-number_of (first ∷ others) name number e = go (bytes_eq first.name na
               (subst (λ n. Contains (first ∷ others) (document first.number n first.body)) named (Contains-head first others)),
         )
     go false same deeper found = let rest = deeper found in (rest.0, Contains-tail first others (document number name rest.0) rest.1)
-
-pub Contains-untaken : (name : List ℕ) (documents : List Document) → is_taken name documents ≡ false → (d : Document) → Contains documents d
-    → bytes_eq d.name name ≡ false
-unfolding number_of
-Contains-untaken name [] free d h = absurd (omega (arith, h.1))
-Contains-untaken name (first ∷ others) free d h =
-    go (bytes_eq first.name name) refl free (λ there. Contains-untaken name others there d) (Contains-cons first others d h)
-  where
-    go : (t : Bool) → bytes_eq first.name name ≡ t → is_some (cond t (Some first.number) (number_of name others)) ≡ false
-        → (is_taken name others ≡ false → Contains others d → bytes_eq d.name name ≡ false) → (first ≡ d) ⊎ Contains others d
-        → bytes_eq d.name name ≡ false
-    go true e free deeper at = absurd (false≢true (sym free))
-    go false e free deeper (inl is) = subst (λ x. bytes_eq x.name name ≡ false) is e
-    go false e free deeper (inr rest) = deeper free rest
 
 -- ---- documents with another body
 

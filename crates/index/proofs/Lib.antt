@@ -9,10 +9,17 @@ pub mod PieceLemmas
 pub mod ApplyLemmas
 pub mod UnderLemmas
 pub mod OrderLemmas
-mod PrefixLemmas
-mod ChosenLemmas
+pub mod PrefixLemmas
+pub mod ChosenLemmas
+pub mod SortLemmas
 pub mod IndexLemmas
 pub mod ListedLemmas
 pub mod LawLemmas
+pub mod GroupLemmas
+pub mod NamedLemmas
 pub mod PlainLemmas
+pub mod BytesLemmas
+pub mod LeaveLemmas
+pub mod CountLemmas
+pub mod NewLemmas
 pub mod RemovedLemmas

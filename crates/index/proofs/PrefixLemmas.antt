@@ -39,7 +39,7 @@ rises-both (x ∷ xs) ys one two below = (
   rises-both xs ys one.1 two (λ a b here there. below a b (Contains-tail x xs a here) there),
 )
 
-Contains-left : (xs ys : List Document) (d : Document) → Contains xs d → Contains (xs ++ ys) d
+pub Contains-left : (xs ys : List Document) (d : Document) → Contains xs d → Contains (xs ++ ys) d
 Contains-left [] ys d h = absurd (omega (arith, h.1))
 Contains-left (x ∷ xs) ys d h =
     elim (Contains-cons x xs d h) [

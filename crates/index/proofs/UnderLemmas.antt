@@ -6,7 +6,7 @@ use Rattle.std.specs.List.{AllByRecursion, list_any}
 use Rattle.std.specs.List.Sorted.{IsStrictlySortedBy}
 use Rattle.std.specs.Ordering.{nat_cmp, is_le, ordering_then}
 use Rattle.std.specs.Cmp.Lexicographic.{slice_cmp}
-use Rattle.std.specs.Map.{keys_of, values_of}
+use Rattle.std.specs.Map.{keys_of}
 use Rattle.std.specs.BTreeMap.Range.{range_contains, is_from_start, entries_between}
 use Rattle.std.specs.declared.ops.Bound.{Bound}
 use Rattle.std.specs.declared.ops.Bound.TheVariants.{Unbounded}
@@ -120,9 +120,9 @@ pub record Behind (text : List ℕ) (entries : List (List ℕ × ℕ)) : Type 0 
   pub rise : IsStrictlySortedBy (slice_cmp nat_cmp) (keys_of entries)
   pub from : AllByRecursion (λ name. is_le (slice_cmp nat_cmp text name) ≡ true) (keys_of entries)
 
--- the numbers that pass the test under the names that begin with the text
-abbrev pub picked : (ℕ → Bool) → List ℕ → List (List ℕ × ℕ) → List ℕ
-picked test text entries = values_of (filter (λ e. test e.1 && begins_with text e.0) entries)
+-- the names that begin with the text and have numbers that pass the test
+abbrev pub picked : (ℕ → Bool) → List ℕ → List (List ℕ × ℕ) → List (List ℕ)
+picked test text entries = keys_of (filter (λ e. test e.1 && begins_with text e.0) entries)
 
 pub Behind-tail : (text : List ℕ) (left rest : List (List ℕ × ℕ)) (name : List ℕ) (number : ℕ) → left ≡ (name, number) ∷ rest → Behind text left
     → Behind text rest
@@ -137,7 +137,7 @@ none_picked test text [] none = refl
 none_picked test text (e ∷ entries) none = rw none.0 (go (test e.1) (none_picked test text entries none.1))
   where
     go : (t : Bool) → picked test text entries ≡ []
-        → values_of (cond (t && false) (e ∷ filter (λ x. test x.1 && begins_with text x.0) entries) (filter (λ x. test x.1 && begins_with text x.0) entries))
+        → keys_of (cond (t && false) (e ∷ filter (λ x. test x.1 && begins_with text x.0) entries) (filter (λ x. test x.1 && begins_with text x.0) entries))
         ≡ []
     go true deeper = deeper
     go false deeper = deeper
@@ -158,10 +158,10 @@ picked-none test text left rest name number next is other =
         (none_behind text name e.0 whole.from.0 above.0 other, all es above.1)
 
 pub picked-keep : (test : ℕ → Bool) (text : List ℕ) (left rest : List (List ℕ × ℕ)) (name : List ℕ) (number : ℕ) → left ≡ (name, number) ∷ rest
-    → test number ≡ true → begins_with text name ≡ true → picked test text left ≡ number ∷ picked test text rest
+    → test number ≡ true → begins_with text name ≡ true → picked test text left ≡ name ∷ picked test text rest
 picked-keep test text left rest name number next passes begins =
     ap (picked test text) next
-    ∙ ap (λ t. values_of (cond t ((name, number) ∷ later) later)) (ap (λ t. t && begins_with text name) passes ∙ begins)
+    ∙ ap (λ t. keys_of (cond t ((name, number) ∷ later) later)) (ap (λ t. t && begins_with text name) passes ∙ begins)
   where
     later : List (List ℕ × ℕ)
     later = filter (λ e. test e.1 && begins_with text e.0) rest
@@ -169,7 +169,7 @@ picked-keep test text left rest name number next passes begins =
 pub picked-skip : (test : ℕ → Bool) (text : List ℕ) (left rest : List (List ℕ × ℕ)) (name : List ℕ) (number : ℕ) → left ≡ (name, number) ∷ rest
     → test number ≡ false → picked test text left ≡ picked test text rest
 picked-skip test text left rest name number next fails =
-    ap (picked test text) next ∙ ap (λ t. values_of (cond (t && begins_with text name) ((name, number) ∷ later) later)) fails
+    ap (picked test text) next ∙ ap (λ t. keys_of (cond (t && begins_with text name) ((name, number) ∷ later) later)) fails
   where
     later : List (List ℕ × ℕ)
     later = filter (λ e. test e.1 && begins_with text e.0) rest
@@ -217,7 +217,7 @@ module _ (text : List ℕ) (first : Bound (List ℕ)) (is : IsFirstUnder text fi
       → picked test text left ≡ picked test text entries
   picked-first test entries left are =
       ap (picked test text) are
-      ∙ ap values_of (filter_before (λ e. test e.1 && begins_with text e.0) (λ e. inside e.0) (λ e h. inside-le e.0 ∙ begins_le text e.0 (second (test e.1) h)) entries)
+      ∙ ap keys_of (filter_before (λ e. test e.1 && begins_with text e.0) (λ e. inside e.0) (λ e h. inside-le e.0 ∙ begins_le text e.0 (second (test e.1) h)) entries)
     where
       second : (t : Bool) {u : Bool} → (t && u) ≡ true → u ≡ true
       second true h = h

@@ -1,10 +1,11 @@
-//! The documents of an index, found by name, by number and by trigrams.
+//! The documents of an index, found by name, by number and by trigrams. A body that several documents have is kept once.
 
-ghost use Rattle.std.specs.Prelude.{◌≡◌, ℕ, List, ◌+◌, ◌^◌, ◌<◌, [], ◌++◌, map, length, OnOk};
+ghost use Rattle.std.specs.Prelude.{◌≡◌, ℕ, List, ◌+◌, ◌^◌, ◌<◌, ◌≤◌, [], ◌∷◌, ◌++◌, map, length, sum, OnOk};
 ghost use Rattle.std.specs.Prelude.{false, OnErr, IfOk, IfErr, IfSome, IfNone, IsOk, IsTrue, IsFalse, true, option_map, filter, bytes_eq, if◌then◌else◌, Some, None};
 ghost use Rattle.std.specs.Ordering.{nat_cmp};
 ghost use Rattle.std.specs.Cmp.Lexicographic.{slice_cmp};
-ghost use Rattle.std.specs.BTreeMap.{IsUnchanged, get};
+ghost use Rattle.std.specs.BTreeMap.{IsUnchanged, IsOrdered, btree_map_len, get};
+ghost use Rattle.std.specs.BTreeSet.{contains};
 ghost use Rattle.std.specs.List.Sorted.{IsStrictlyIncreasing};
 ghost use Rattle.index.specs.declared.command.Command.TheVariants.{Put as put_command, Remove as remove_command, RemoveUnder as remove_under_command};
 ghost use Rattle.watch.specs.CalledOff.{IsCalledOffOnlyIf};
@@ -12,27 +13,32 @@ ghost use Rattle.query.specs.Query.{formula_of};
 ghost use Rattle.query.specs.Trigrams.{ListsTrigrams};
 ghost use Rattle.index.specs.Text.{IsName};
 ghost use Rattle.prefixes.specs.Under.{begins_with};
-ghost use Rattle.index.specs.Private.Numbered.{number_of, has_under, meets, is_chosen, is_picked, is_under, is_under_any, AreFirstInNameOrder};
-ghost use Rattle.index.specs.Private.Numbered.{state, applied, body_bytes, IsState, IsTakenUnder, documents_shared};
-ghost use Rattle.std.specs.FinMap.{get as body_under};
-ghost use Rattle.index.specs.Private.Plain.{plain_documents};
-ghost use Rattle.index.specs.Private.Chosen.{document_numbered, documents_numbered, IsFirstUnder};
+ghost use Rattle.index.specs.State.{applied, body_bytes, IsTakenUnder};
+ghost use Rattle.index.specs.Private.Numbered.{document, document_at, number_of, has_under, is_chosen, is_picked, is_under_any, AreFirstInNameOrder};
+ghost use Rattle.index.specs.Private.Numbered.{state, body_bytes as content_bytes, IsState, documents_shared};
+ghost use Rattle.index.specs.Private.Contents.{body_at, has_name, is_number, with_name, names_count, AreGroupsOf, HasNames, IsLeft, IsAlone, IsOwn, AreChosen};
+ghost use Rattle.std.specs.FinMap.{get as body_under, insert, remove};
+ghost use Rattle.index.specs.Private.Plain.{plain_documents, plain_state};
+ghost use Rattle.index.specs.Private.Chosen.{document_named, document_numbered, documents_numbered, IsFirstUnder};
+ghost use Rattle.index.specs.Private.Slots.{documents_in, RiseTo};
 ghost use Rattle.index.specs.Private.Store.{stored, IsStore, HasPlaceFor};
 
 use crate::body::Body;
+use crate::by_name::sort_by_name;
 use crate::document::SharedDocument;
 use crate::error::NameError;
-use crate::held::Held;
+use crate::groups::{join, part, take_back};
+use crate::held::{Held, hash_of};
 use crate::name::{MAX_NAME, Name};
 use crate::sets::FEW_BYTES;
-use crate::slots::{Occupant, occupant_at};
+use crate::slots::{Occupant, Slot, occupant_at};
 use crate::store::Store;
 use posting::{Lookup, Trigrams};
 use prefixes::Prefixes;
 use query::Query;
 use std::alloc::{AllocError, Global};
 use std::cmp::Ordering;
-use std::collections::BTreeMap;
+use std::collections::{BTreeMap, BTreeSet};
 use std::marker::Model;
 use std::ops::Bound;
 use std::thread::Threads;
@@ -51,27 +57,36 @@ const STRIDE: usize = 64;
 /// How many documents are handed out, or names passed, between two looks at whether the answer is wanted.
 const DOCUMENTS: usize = 1024;
 
-/// The documents that commands leave, each with a number: the place, among all commands and counted from 1, of the first
-/// `Put` of its name since it was last removed. Contracts see how many commands were applied, and the documents, rising by
-/// their numbers.
+/// The documents that commands leave. A body that several of them have is kept once, as a content, which has a number: the place,
+/// among all commands and counted from 1, of a `Put` of that body. Contracts see how many commands were applied, and the documents,
+/// rising by their names, each with the number of its content.
 #[derive(Drop)]
 pub(crate) struct Catalog {
     // the number of commands
     version: u32,
-    /// The number of each document, by its name.
+    /// The number of each document's content, by the document's name.
     numbers: BTreeMap<Name, u32>,
+    /// The names of each content that several documents have, or had, by its number. Other contents have the one name that the
+    /// store keeps with them.
+    groups: BTreeMap<u32, BTreeSet<Name>>,
+    /// The contents.
     store: Store,
+    /// The total length of the bodies of all documents, in bytes.
+    held_bytes: u64,
+    /// By the hash of its body, the number of a content that perhaps has it. No contract depends on it.
+    hints: BTreeMap<u64, u32>,
 }
 
 impl Model for Catalog {
     ghost use Rattle.index.specs.Private.Numbered.{State, state};
+    ghost use Rattle.index.specs.Private.Contents.{named};
     ghost use Rattle.index.specs.Private.Store.{stored, IsIndex};
 
     ghost Value = { State };
 
-    ghost view = { λ i. state i.version (stored i.store) };
+    ghost view = { λ i. state i.version (named i.numbers (stored i.store)) };
 
-    ghost invariant = { λ i. IsIndex i.version i.numbers i.store };
+    ghost invariant = { λ i. IsIndex i.version i.numbers i.groups i.store i.held_bytes };
 }
 
 impl Catalog {
@@ -82,135 +97,221 @@ impl Catalog {
         Catalog {
             version: 0,
             numbers: BTreeMap::new(alloc),
+            groups: BTreeMap::new(alloc),
             store: Store::new(alloc),
+            held_bytes: 0,
+            hints: BTreeMap::new(alloc),
         }
     }
 
     /// As `Index::apply_put`.
     pub(crate) fn apply_put(&mut self, name: &Name, held: &Held) -> Result<(), AllocError>
         requires { self.old.version + 1 < 2 ^ 32 }
-        ensures ok { OnOk result (self.new ≡ applied (put_command name.now held.now) self.old) }
+        ensures ok { OnOk result (plain_state self.new ≡ applied (put_command name.now held.now) (plain_state self.old)) }
         ensures err { OnErr result (self.new ≡ self.old) }
     {
-        match self.number(name) {
-            Some(number) => self.replace(number, name, held),
-            None => self.put_new(name, held),
+        let old = self.number(name);
+        let is_put = self.put_copy(name, old, held, false)?;
+        if is_put {
+            return Ok(());
         }
+        self.put_body(name, old, held, false)
     }
 
     /// As `Index::put_later`.
     pub(crate) fn put_later(&mut self, name: &Name, held: &Held) -> Result<(), AllocError>
         requires { self.old.version + 1 < 2 ^ 32 }
-        ensures ok { OnOk result (self.new ≡ applied (put_command name.now held.now) self.old) }
+        ensures ok { OnOk result (plain_state self.new ≡ applied (put_command name.now held.now) (plain_state self.old)) }
         ensures err { OnErr result (self.new ≡ self.old) }
     {
-        match self.number(name) {
-            Some(_) => self.apply_put(name, held),
-            None => self.put_new_later(name, held),
-        }
-    }
-
-    /// Replaces the body of the document with this number and name.
-    fn replace(&mut self, number: u32, name: &Name, held: &Held) -> Result<(), AllocError>
-        requires few { self.old.version + 1 < 2 ^ 32 }
-        requires there { number_of name.now self.old.documents ≡ Some number }
-        ensures ok { OnOk result (self.new ≡ applied (put_command name.now held.now) self.old) }
-        ensures err { OnErr result (self.new ≡ self.old) }
-    {
-        let held = held.share()?;
-        if self.store.sets.has_waiting(number) {
-            let _trigrams = held.trigrams();
-            self.store.replace_later(number, held);
-            self.version += 1;
+        let old = self.number(name);
+        let is_put = self.put_copy(name, old, held, false)?;
+        if is_put {
             return Ok(());
         }
-        let change = self.store.prepare(number, held.trigrams())?;
-        self.store.replace(number, &change, held);
-        self.version += 1;
-        Ok(())
+        self.put_body(name, old, held, true)
     }
 
     /// As `Index::put_in_pieces`.
     pub(crate) fn put_in_pieces(&mut self, name: &Name, held: &Held) -> Result<(), AllocError>
         requires { self.old.version + 1 < 2 ^ 32 }
-        ensures ok { OnOk result (self.new ≡ applied (put_command name.now held.now) self.old) }
+        ensures ok { OnOk result (plain_state self.new ≡ applied (put_command name.now held.now) (plain_state self.old)) }
         ensures err { OnErr result (self.new ≡ self.old) }
     {
         self.start_over_if_too_much();
+        let old = self.number(name);
+        let is_put = self.put_copy(name, old, held, true)?;
+        if is_put {
+            return Ok(());
+        }
+        self.put_body_in_pieces(name, old, held)
+    }
+
+    /// As `put_body`, but if many sets have to change, the content waits.
+    fn put_body_in_pieces(
+        &mut self,
+        name: &Name,
+        old: Option<u32>,
+        held: &Held,
+    ) -> Result<(), AllocError>
+        requires few { self.old.version + 1 < 2 ^ 32 }
+        requires old { old ≡ number_of name.now self.old.documents }
+        ensures ok { OnOk result (plain_state self.new ≡ applied (put_command name.now held.now) (plain_state self.old)) }
+        ensures err { OnErr result (self.new ≡ self.old) }
+    {
         if self.store.sets.has_waiting(u32::MAX) {
-            return self.put_later(name, held);
+            return self.put_body(name, old, held, true);
         }
         if !self.store.is_idle() {
-            return self.apply_put(name, held);
+            return self.put_body(name, old, held, false);
         }
-        match self.number(name) {
+        match self.own(name, old) {
             Some(number) if self.store.changes_much(number, held.trigrams())? => {
-                self.replace_in_pieces(name, number, held)
+                self.replace(number, name, held, true)
             }
-            Some(_) => self.apply_put(name, held),
-            None if held.trigrams().size() > FEW_BYTES => self.put_new_later(name, held),
-            None => self.apply_put(name, held),
+            Some(number) => self.replace(number, name, held, false),
+            None => self.put_new(name, old, held, held.trigrams().size() > FEW_BYTES),
         }
     }
 
-    /// Has all documents wait for `fill`, if it has taken as long to change the sets as to fill them.
+    /// Applies the `Put` of a body, which is kept anew even if a content has it already, where `old` is the number under the name. A new
+    /// content waits if `later` is asked for.
+    fn put_body(
+        &mut self,
+        name: &Name,
+        old: Option<u32>,
+        held: &Held,
+        later: bool,
+    ) -> Result<(), AllocError>
+        requires few { self.old.version + 1 < 2 ^ 32 }
+        requires old { old ≡ number_of name.now self.old.documents }
+        ensures ok { OnOk result (plain_state self.new ≡ applied (put_command name.now held.now) (plain_state self.old)) }
+        ensures err { OnErr result (self.new ≡ self.old) }
+    {
+        match self.own(name, old) {
+            Some(number) => self.replace(number, name, held, false),
+            None => self.put_new(name, old, held, later),
+        }
+    }
+
+    /// Applies the `Put` of a body that a content is known to have, under one more name, and returns whether there is one. If the
+    /// content with the number `old`, which the name has, goes and that is much work, its number waits, with `later`.
+    fn put_copy(
+        &mut self,
+        name: &Name,
+        old: Option<u32>,
+        held: &Held,
+        later: bool,
+    ) -> Result<bool, AllocError>
+        requires few { self.old.version + 1 < 2 ^ 32 }
+        requires old { old ≡ number_of name.now self.old.documents }
+        ensures put { IfOk result (λ is_put. is_put ≡ true → plain_state self.new ≡ applied (put_command name.now held.now) (plain_state self.old)) }
+        ensures none { IfOk result (λ is_put. is_put ≡ false → self.new ≡ self.old) }
+        ensures err { OnErr result (self.new ≡ self.old) }
+    {
+        let Some(number) = content_with(&self.hints, &self.store.slots, held) else {
+            return Ok(false);
+        };
+        if is_number(old, number) {
+            self.version += 1;
+            return Ok(true);
+        }
+        let held_bytes = self.bytes_with(name, old, held);
+        enter_copy(
+            &mut self.numbers,
+            &mut self.groups,
+            &self.store,
+            name,
+            number,
+        )?;
+        leave(
+            &mut self.groups,
+            &mut self.hints,
+            &mut self.store,
+            old,
+            name,
+            later,
+        );
+        self.held_bytes = held_bytes;
+        self.version += 1;
+        Ok(true)
+    }
+
+    /// Replaces the body of the content with this number, of which this is the only name. The content then waits if `in_pieces` is
+    /// asked for and nothing waits yet.
+    fn replace(
+        &mut self,
+        number: u32,
+        name: &Name,
+        held: &Held,
+        in_pieces: bool,
+    ) -> Result<(), AllocError>
+        requires few { self.old.version + 1 < 2 ^ 32 }
+        requires own { IsOwn name.now number self.old.documents }
+        ensures ok { OnOk result (plain_state self.new ≡ applied (put_command name.now held.now) (plain_state self.old)) }
+        ensures err { OnErr result (self.new ≡ self.old) }
+    {
+        let held_bytes = self.bytes_with(name, Some(number), held);
+        let held = held.share()?;
+        let _trigrams = held.trigrams();
+        let (old, new) = (self.hash_at(number), held.hash());
+        self.store.replace_body(number, held, in_pieces)?;
+        self.held_bytes = held_bytes;
+        self.version += 1;
+        change_hint(&mut self.hints, number, old, new);
+        Ok(())
+    }
+
+    /// Has all contents wait for `fill`, if it has taken as long to change the sets as to fill them.
     fn start_over_if_too_much(&mut self)
         ensures { self.new ≡ self.old }
     {
         self.store.start_over_if_too_much();
     }
 
-    /// Applies the `Put` of the name of the document with this number, which then waits. Nothing waits yet, or this is an `Err` too.
-    fn replace_in_pieces(&mut self, name: &Name, number: u32, held: &Held) -> Result<(), AllocError>
+    /// Puts in a new content for the name, which has the number `old`. It waits if `later` is asked for.
+    fn put_new(
+        &mut self,
+        name: &Name,
+        old: Option<u32>,
+        held: &Held,
+        later: bool,
+    ) -> Result<(), AllocError>
         requires few { self.old.version + 1 < 2 ^ 32 }
-        requires there { number_of name.now self.old.documents ≡ Some number }
-        ensures ok { OnOk result (self.new ≡ applied (put_command name.now held.now) self.old) }
+        requires old { old ≡ number_of name.now self.old.documents }
+        ensures ok { OnOk result (plain_state self.new ≡ applied (put_command name.now held.now) (plain_state self.old)) }
         ensures err { OnErr result (self.new ≡ self.old) }
     {
+        let held_bytes = self.bytes_with(name, old, held);
         let held = held.share()?;
         let _trigrams = held.trigrams();
-        if !self.store.is_idle() {
-            return Err(AllocError);
-        }
-        self.store.replace_in_pieces(number, held);
-        self.version += 1;
-        Ok(())
-    }
-
-    fn put_new(&mut self, name: &Name, held: &Held) -> Result<(), AllocError>
-        requires few { self.old.version + 1 < 2 ^ 32 }
-        requires new { number_of name.now self.old.documents ≡ None }
-        ensures ok { OnOk result (self.new ≡ applied (put_command name.now held.now) self.old) }
-        ensures err { OnErr result (self.new ≡ self.old) }
-    {
-        let held = held.share()?;
+        let hash = held.hash();
         let number = self.version + 1;
-        let own = enter(
+        put_content(
             &mut self.numbers,
             &mut self.store,
             name,
             number,
-            held.trigrams(),
+            held,
+            later,
         )?;
-        self.store.put_in(number, Occupant { name: own, held });
+        leave(
+            &mut self.groups,
+            &mut self.hints,
+            &mut self.store,
+            old,
+            name,
+            false,
+        );
+        self.held_bytes = held_bytes;
         self.version = number;
+        change_hint(&mut self.hints, number, None, hash);
         Ok(())
     }
 
-    fn put_new_later(&mut self, name: &Name, held: &Held) -> Result<(), AllocError>
-        requires few { self.old.version + 1 < 2 ^ 32 }
-        requires new { number_of name.now self.old.documents ≡ None }
-        ensures ok { OnOk result (self.new ≡ applied (put_command name.now held.now) self.old) }
-        ensures err { OnErr result (self.new ≡ self.old) }
-    {
-        let held = held.share()?;
-        let _trigrams = held.trigrams();
-        let number = self.version + 1;
-        let none = Trigrams::new(*self.store.slots.allocator(), &[])?;
-        let own = enter(&mut self.numbers, &mut self.store, name, number, &none)?;
-        self.store.put_later(number, Occupant { name: own, held });
-        self.version = number;
-        Ok(())
+    /// The hash of the body of the content with this number, if there is one.
+    fn hash_at(&self, number: u32) -> Option<u64> {
+        hash_at(&self.store.slots, number)
     }
 
     /// As `Index::expect_fill`.
@@ -254,13 +355,22 @@ impl Catalog {
     /// As `Index::remove`, or, with `later`, as `Index::remove_in_pieces`.
     pub(crate) fn remove(&mut self, name: &Name, later: bool) -> Result<(), AllocError>
         requires { self.old.version + 1 < 2 ^ 32 }
-        ensures ok { OnOk result (self.new ≡ applied (remove_command name.now) self.old) }
+        ensures ok { OnOk result (plain_state self.new ≡ applied (remove_command name.now) (plain_state self.old)) }
         ensures err { OnErr result (self.new ≡ self.old) }
         ensures done { IsOk result }
     {
-        if let Some(number) = self.numbers.remove(name) {
-            self.store.take_out(number, later);
-        }
+        let old = self.number(name);
+        let held_bytes = self.bytes_without(name, old);
+        self.numbers.remove(name);
+        leave(
+            &mut self.groups,
+            &mut self.hints,
+            &mut self.store,
+            old,
+            name,
+            later,
+        );
+        self.held_bytes = held_bytes;
         self.version += 1;
         Ok(())
     }
@@ -268,7 +378,7 @@ impl Catalog {
     /// As `Index::remove_under`.
     pub(crate) fn remove_under(&mut self, prefix: &Name) -> Result<(), AllocError>
         requires { self.old.version + 1 < 2 ^ 32 }
-        ensures ok { OnOk result (self.new ≡ applied (remove_under_command prefix.now) self.old) }
+        ensures ok { OnOk result (plain_state self.new ≡ applied (remove_under_command prefix.now) (plain_state self.old)) }
         ensures err { OnErr result (self.new ≡ self.old) }
         ensures done { IsOk result }
     {
@@ -277,21 +387,32 @@ impl Catalog {
         Ok(())
     }
 
-    /// As `Index::take_one_under`, but the number of the document waits only with `later`.
+    /// As `Index::take_one_under`, but the number of a content waits only with `later`.
     pub(crate) fn take_one_under(&mut self, prefix: &Name, later: bool) -> bool
-        ensures taken { IsTrue result → IsTakenUnder prefix.now self.old self.new }
-        ensures same { applied (remove_under_command prefix.now) self.new ≡ applied (remove_under_command prefix.now) self.old }
+        ensures taken { IsTrue result → IsTakenUnder prefix.now (plain_state self.old) (plain_state self.new) }
+        ensures same { applied (remove_under_command prefix.now) (plain_state self.new) ≡ applied (remove_under_command prefix.now) (plain_state self.old) }
         ensures none { IsFalse result → (self.new ≡ self.old) × (has_under prefix.now self.old.documents ≡ false) }
     {
         let alloc = *self.store.slots.allocator();
         let Some(number) = number_under(alloc, &self.numbers, prefix, self.version) else {
             return false;
         };
-        let Some(occupant) = occupant_at(&self.store.slots, number) else {
+        let Some(name) = name_under(&self.groups, &self.store.slots, number, prefix) else {
             return false;
         };
-        self.numbers.remove(&occupant.name);
-        self.store.take_out(number, later);
+        let Some((own, old)) = self.numbers.remove_entry(name) else {
+            return false;
+        };
+        let length = length_at(&self.store.slots, old);
+        leave(
+            &mut self.groups,
+            &mut self.hints,
+            &mut self.store,
+            Some(old),
+            &own,
+            later,
+        );
+        self.held_bytes -= length as u64;
         true
     }
 
@@ -307,21 +428,59 @@ impl Catalog {
     pub(crate) fn documents(&self) -> u32
         ensures { result ≡ length self.now.documents }
     {
-        self.store.count as u32
+        self.numbers.len() as u32
     }
 
     /// The total length of the documents' bodies, in bytes.
     pub(crate) fn held_bytes(&self) -> u64
-        ensures { result ≡ body_bytes self.now.documents }
+        ensures { result ≡ body_bytes (plain_documents self.now.documents) }
     {
-        self.store.held_bytes
+        self.held_bytes
     }
 
-    /// The number of the document with this name, if there is one.
+    /// The total length of the bodies once the document with this name, and the number `old`, has this one.
+    fn bytes_with(&self, name: &Name, old: Option<u32>, held: &Held) -> u64
+        requires { old ≡ number_of name.now self.now.documents }
+        ensures { result ≡ body_bytes (insert (plain_documents self.now.documents) name.now held.now) }
+    {
+        let _ = &self.version;
+        let others = self.bytes_without(name, old);
+        let length = held.body().as_bytes().len() as u64;
+        others + length
+    }
+
+    /// The total length of the bodies of the documents with other names, where this one has the number `old`.
+    fn bytes_without(&self, name: &Name, old: Option<u32>) -> u64
+        requires { old ≡ number_of name.now self.now.documents }
+        ensures { result ≡ body_bytes (remove (plain_documents self.now.documents) name.now) }
+    {
+        let Some(number) = old else {
+            return self.held_bytes;
+        };
+        let length = length_at(&self.store.slots, number) as u64;
+        self.held_bytes - length
+    }
+
+    /// The number of the content of the document with this name, if there is such a document.
     fn number(&self, name: &Name) -> Option<u32>
         ensures { result ≡ number_of name.now self.now.documents }
     {
         self.numbers.get(name).copied()
+    }
+
+    /// The number `old` of this name's content, if it has no other name.
+    fn own(&self, name: &Name, old: Option<u32>) -> Option<u32>
+        requires { old ≡ number_of name.now self.now.documents }
+        ensures { IfSome result (λ number. IsOwn name.now number self.now.documents) }
+    {
+        let Some(number) = old else {
+            return None;
+        };
+        if is_alone(&self.groups, number) {
+            Some(number)
+        } else {
+            None
+        }
     }
 
     /// The body of the document with this name, if there is one.
@@ -337,22 +496,26 @@ impl Catalog {
         Some(occupant.held.body())
     }
 
-    /// The numbers of the documents whose trigrams meet the query, rising. `OutOfMemory` means that memory ran out, or that documents
-    /// wait (`Index::is_filling`): between two pieces, or since memory ran out when they were to be put into their sets.
+    /// The numbers of the contents whose trigrams meet the query, rising, and how many documents have these contents. `OutOfMemory`
+    /// means that memory ran out, or that documents wait (`Index::is_filling`): between two pieces, or since memory ran out when they
+    /// were to be put into their sets.
     pub(crate) fn candidates<W: Watch>(
         &self,
         alloc: Global,
         query: &Query,
         watch: &mut W,
-    ) -> Result<posting::List, Unanswered>
-        ensures chosen { IfOk result (λ chosen. chosen.members
-            ≡ map (λ d. d.number) (filter (meets (formula_of query.now)) self.now.documents)) }
+    ) -> Result<(posting::List, u32), Unanswered>
+        ensures chosen { IfOk result (λ chosen. AreChosen (formula_of query.now) self.now.documents chosen.0.members chosen.1) }
         ensures called_off { IfErr result (IsCalledOffOnlyIf (W.has_said_no watch.new)) }
     {
         let sets = &self.store.sets;
         match &sets.waiting {
             Some(_) => Err(Unanswered::OutOfMemory),
-            None => sets.postings.select(alloc, query, &sets.live, watch),
+            None => {
+                let list = sets.postings.select(alloc, query, &sets.live, watch)?;
+                let count = count_names(&self.groups, &list, watch)?;
+                Ok((list, count as u32))
+            }
         }
     }
 
@@ -460,9 +623,21 @@ impl Catalog {
     {
         let _ = &self.version;
         let mut shared = self.numbered(alloc, chosen, prefixes, watch)?;
-        shared.sort_unstable_by(|one, other| one.name.cmp(&other.name));
+        sort_by_name(alloc, &mut shared, watch)?;
         shared.truncate(most);
         Ok(shared)
+    }
+
+    /// Another handle to the body of a content that is the same as this one, if the hints lead to it.
+    pub(crate) fn held_like(&self, body: &Body) -> Option<Held>
+        ensures { IfSome result (λ held. held ≡ body.now) }
+    {
+        let number = self.hints.get(&hash_of(body.as_bytes())).copied()?;
+        let occupant = occupant_at(&self.store.slots, number)?;
+        if occupant.held.body().as_bytes() != body.as_bytes() {
+            return None;
+        }
+        occupant.held.share().ok()
     }
 
     /// The documents whose numbers are in the list and whose names begin with one of the prefixes, in the order of their
@@ -489,7 +664,6 @@ impl Catalog {
         Ok(shared)
     }
 
-    /// Adds the document with this number, if there is one and its name begins with one of the prefixes.
     fn add_if_under(
         &self,
         number: u32,
@@ -499,16 +673,13 @@ impl Catalog {
         ensures { OnOk result (documents_shared shared.new.items
             ≡ documents_shared shared.old.items ++ filter (is_under_any prefixes.now) (document_numbered self.now.documents number)) }
     {
-        if let Some(occupant) = occupant_at(&self.store.slots, number) {
-            if prefixes.have(occupant.name.as_bytes()) {
-                shared.push(SharedDocument {
-                    number,
-                    name: occupant.name.share()?,
-                    held: occupant.held.share()?,
-                })?;
-            }
+        let Some(occupant) = occupant_at(&self.store.slots, number) else {
+            return Ok(());
+        };
+        match self.groups.get(&number) {
+            Some(names) => add_named(names, number, &occupant.held, prefixes, shared),
+            None => add_one(&occupant.name, number, &occupant.held, prefixes, shared),
         }
-        Ok(())
     }
 
     /// The documents whose numbers are in the list and whose names begin with one of the prefixes, found among those of each
@@ -599,32 +770,27 @@ impl Catalog {
                 return Ok(shared);
             }
             if among.has(*number) {
-                self.add(*number, prefix, &mut shared)?;
+                self.add(name, *number, &mut shared)?;
             }
         }
         Ok(shared)
     }
 
-    /// Adds the document with this number, if there is one and its name begins with the prefix.
+    /// Adds the document with this name, which has the content with this number.
     fn add(
         &self,
+        name: &Name,
         number: u32,
-        prefix: &[u8],
         shared: &mut Vec<SharedDocument>,
     ) -> Result<(), AllocError>
+        requires { number_of name.now self.now.documents ≡ Some number }
         ensures { OnOk result (documents_shared shared.new.items
-            ≡ documents_shared shared.old.items ++ filter (is_under prefix.now) (document_numbered self.now.documents number)) }
+            ≡ documents_shared shared.old.items ++ document_named self.now.documents name.now) }
     {
-        if let Some(occupant) = occupant_at(&self.store.slots, number) {
-            if occupant.name.as_bytes().starts_with(prefix) {
-                shared.push(SharedDocument {
-                    number,
-                    name: occupant.name.share()?,
-                    held: occupant.held.share()?,
-                })?;
-            }
-        }
-        Ok(())
+        let Some(occupant) = occupant_at(&self.store.slots, number) else {
+            return Err(AllocError);
+        };
+        push_document(name, number, &occupant.held, shared)
     }
 }
 
@@ -734,6 +900,8 @@ fn enter(
     ensures name { IfOk result (λ own. (own ≡ name.now) × IsName own) }
     ensures numbers { OnOk result ((q : List ℕ) → get (slice_cmp nat_cmp) numbers.new q
         ≡ (if bytes_eq name.now q then Some number else get (slice_cmp nat_cmp) numbers.old q)) }
+    ensures ordered { OnOk result (IsOrdered (slice_cmp nat_cmp) numbers.new) }
+    ensures len { OnOk result (btree_map_len numbers.new ≤ btree_map_len numbers.old + 1) }
     ensures err { OnErr result (IsUnchanged numbers.old numbers.new) }
     ensures room { OnOk result ((body : List ℕ) → ListsTrigrams body trigrams.now → HasPlaceFor store.new number body) }
 {
@@ -742,4 +910,289 @@ fn enter(
     let own = name.share()?;
     numbers.insert(name.share()?, number)?;
     Ok(own)
+}
+
+/// Enters the name under a new number, and puts in a content with this number, name and body, which waits if `later` is asked for.
+/// After an `Err` nothing was entered.
+fn put_content(
+    numbers: &mut BTreeMap<Name, u32>,
+    store: &mut Store,
+    name: &Name,
+    number: u32,
+    held: Held,
+    later: bool,
+) -> Result<(), AllocError>
+    requires store { (last : ℕ) × IsStore last store.old × (last < number) }
+    requires bytes { content_bytes (stored store.old) + length held < 2 ^ 64 }
+    ensures numbers { OnOk result ((q : List ℕ) → get (slice_cmp nat_cmp) numbers.new q
+        ≡ (if bytes_eq name.now q then Some number else get (slice_cmp nat_cmp) numbers.old q)) }
+    ensures ordered { OnOk result (IsOrdered (slice_cmp nat_cmp) numbers.new) }
+    ensures len { OnOk result (btree_map_len numbers.new ≤ btree_map_len numbers.old + 1) }
+    ensures name { OnOk result (IsName name.now) }
+    ensures documents { OnOk result (stored store.new ≡ stored store.old ++ document number name.now held ∷ []) }
+    ensures store { OnOk result (IsStore number store.new) }
+    ensures err { OnErr result (IsUnchanged numbers.old numbers.new) }
+    ensures kept { OnErr result (stored store.new ≡ stored store.old) }
+    ensures kept_store { OnErr result ((last : ℕ) → IsStore last store.old → IsStore last store.new) }
+{
+    if later {
+        let none = Trigrams::new(*store.slots.allocator(), &[])?;
+        let own = enter(numbers, store, name, number, &none)?;
+        store.put_later(number, Occupant { name: own, held });
+        return Ok(());
+    }
+    let own = enter(numbers, store, name, number, held.trigrams())?;
+    store.put_in(number, Occupant { name: own, held });
+    Ok(())
+}
+
+/// Enters the name under the number of a content, and among the content's names. After an `Err` nothing was entered.
+fn enter_copy(
+    numbers: &mut BTreeMap<Name, u32>,
+    groups: &mut BTreeMap<u32, BTreeSet<Name>>,
+    store: &Store,
+    name: &Name,
+    number: u32,
+) -> Result<(), AllocError>
+    requires store { (last : ℕ) × IsStore last store.now }
+    requires free { get (slice_cmp nat_cmp) numbers.old name.now ≡ None → has_name groups.old (stored store.now) number name.now ≡ false }
+    ensures numbers { OnOk result ((q : List ℕ) → get (slice_cmp nat_cmp) numbers.new q
+        ≡ (if bytes_eq name.now q then Some number else get (slice_cmp nat_cmp) numbers.old q)) }
+    ensures ordered { OnOk result (IsOrdered (slice_cmp nat_cmp) numbers.new) }
+    ensures len { OnOk result (btree_map_len numbers.new ≤ btree_map_len numbers.old + 1) }
+    ensures name { OnOk result (IsName name.now) }
+    ensures ok { OnOk result (HasNames (with_name number name.now (has_name groups.old (stored store.now))) (stored store.now) groups.old groups.new) }
+    ensures err { OnErr result (IsUnchanged numbers.old numbers.new) }
+    ensures kept { OnErr result (HasNames (has_name groups.old (stored store.now)) (stored store.now) groups.old groups.new) }
+{
+    let alloc = *store.slots.allocator();
+    let Some(occupant) = occupant_at(&store.slots, number) else {
+        return Err(AllocError);
+    };
+    let _bytes = name.as_bytes();
+    let own = name.share()?;
+    join(groups, alloc, number, &occupant.name, name)?;
+    match numbers.insert(own, number) {
+        Ok(_) => return Ok(()),
+        Err(_) => {}
+    }
+    take_back(groups, number, name);
+    Err(AllocError)
+}
+
+/// Whether it is this number.
+fn is_number(found: Option<u32>, number: u32) -> bool
+    ensures { result ≡ is_number number found }
+{
+    match found {
+        Some(other) => other == number,
+        None => false,
+    }
+}
+
+/// The name leaves the content with this number, if it has had one. The content goes with its last name; if that is much work and
+/// `later` is asked for, its number waits to be taken out of the sets of its trigrams. This takes no memory.
+fn leave(
+    groups: &mut BTreeMap<u32, BTreeSet<Name>>,
+    hints: &mut BTreeMap<u64, u32>,
+    store: &mut Store,
+    old: Option<u32>,
+    name: &Name,
+    later: bool,
+)
+    requires store { (last : ℕ) × IsStore last store.old }
+    requires name { IfSome old (λ number. has_name groups.old (stored store.old) number name.now ≡ true) }
+    requires groups { AreGroupsOf (stored store.old) groups.old }
+    ensures left { IsLeft old name.now (stored store.old) groups.old (stored store.new) groups.new }
+    ensures store { (last : ℕ) → IsStore last store.old → IsStore last store.new }
+{
+    let Some(number) = old else {
+        return;
+    };
+    if part(groups, number, name) {
+        return;
+    }
+    forget(hints, hash_at(&store.slots, number), number);
+    store.take_out(number, later);
+}
+
+/// The length of the body of the content with this number; 0 if there is none.
+fn length_at(slots: &[Slot], number: u32) -> usize
+    requires { (last : ℕ) × RiseTo last slots.now }
+    ensures { result ≡ length (body_at (documents_in slots.now) number) }
+{
+    match occupant_at(slots, number) {
+        Some(occupant) => occupant.held.body().as_bytes().len(),
+        None => 0,
+    }
+}
+
+/// The hash of the body of the content with this number, if there is one.
+fn hash_at(slots: &[Slot], number: u32) -> Option<u64>
+    requires { (last : ℕ) × RiseTo last slots.now }
+{
+    Some(occupant_at(slots, number)?.held.hash())
+}
+
+/// Notes the hash of the body that the content with this number has now, and forgets that of the body that it had. If there is no
+/// memory for it, it is not noted.
+fn change_hint(hints: &mut BTreeMap<u64, u32>, number: u32, old: Option<u64>, new: u64) {
+    forget(hints, old, number);
+    let _ = hints.insert(new, number);
+}
+
+/// Forgets that the content with this number has a body of this hash.
+fn forget(hints: &mut BTreeMap<u64, u32>, hash: Option<u64>, number: u32) {
+    if let Some(hash) = hash {
+        if hints.get(&hash).copied() == Some(number) {
+            hints.remove(&hash);
+        }
+    }
+}
+
+/// The number of a content with this body, if the hints lead to one.
+fn content_with(hints: &BTreeMap<u64, u32>, slots: &[Slot], held: &Held) -> Option<u32>
+    requires { (last : ℕ) × RiseTo last slots.now }
+    ensures { IfSome result (λ number. option_map (λ d. d.1) (document_at number (documents_in slots.now)) ≡ Some held.now) }
+{
+    let number = hints.get(&held.hash()).copied()?;
+    let occupant = occupant_at(slots, number)?;
+    if occupant.held.body().as_bytes() != held.body().as_bytes() {
+        return None;
+    }
+    Some(number)
+}
+
+/// A name of the content with this number that begins with the prefix, if there is one.
+fn name_under<'a>(
+    groups: &'a BTreeMap<u32, BTreeSet<Name>>,
+    slots: &'a [Slot],
+    number: u32,
+    prefix: &Name,
+) -> Option<&'a Name>
+    requires { (last : ℕ) × RiseTo last slots.now }
+    ensures some { IfSome result (λ name. (begins_with prefix.now name.now ≡ true) × (has_name groups.now (documents_in slots.now) number name.now ≡ true)) }
+    ensures none { IfNone result ((name : List ℕ) → begins_with prefix.now name ≡ true → has_name groups.now (documents_in slots.now) number name ≡ false) }
+{
+    if let Some(names) = groups.get(&number) {
+        return first_name_under(names, prefix);
+    }
+    let Some(occupant) = occupant_at(slots, number) else {
+        return None;
+    };
+    if !occupant.name.as_bytes().starts_with(prefix.as_bytes()) {
+        return None;
+    }
+    Some(&occupant.name)
+}
+
+/// The first of these names that begins with the prefix, if there is one.
+fn first_name_under<'a>(names: &'a BTreeSet<Name>, prefix: &Name) -> Option<&'a Name>
+    ensures some { IfSome result (λ name. (begins_with prefix.now name.now ≡ true) × (contains (slice_cmp nat_cmp) names.now name.now ≡ true)) }
+    ensures none { IfNone result ((name : List ℕ) → begins_with prefix.now name ≡ true → contains (slice_cmp nat_cmp) names.now name ≡ false) }
+{
+    let text = prefix.as_bytes();
+    let mut found = names.range((Bound::Included(prefix), Bound::Unbounded));
+    let Some(name) = found.next() else {
+        return None;
+    };
+    if !name.as_bytes().starts_with(text) {
+        return None;
+    }
+    Some(name)
+}
+
+/// Whether the content with this number has one name.
+fn is_alone(groups: &BTreeMap<u32, BTreeSet<Name>>, number: u32) -> bool
+    ensures { IsTrue result → IsAlone (get nat_cmp groups.now number) }
+{
+    match groups.get(&number) {
+        Some(names) => names.len() == 1,
+        None => true,
+    }
+}
+
+/// How many names the contents with these numbers have, all together. An `Err` means that `watch` called it off.
+fn count_names<W: Watch>(
+    groups: &BTreeMap<u32, BTreeSet<Name>>,
+    chosen: &posting::List,
+    watch: &mut W,
+) -> Result<usize, Unanswered>
+    requires { sum (map (names_count groups.now) chosen.now.members) < 2 ^ 32 }
+    ensures count { IfOk result (λ count. count ≡ sum (map (names_count groups.now) chosen.now.members)) }
+    ensures called_off { IfErr result (IsCalledOffOnlyIf (W.has_said_no watch.new)) }
+{
+    if groups.is_empty() {
+        return Ok(chosen.len());
+    }
+    let numbers = chosen.numbers();
+    let mut count = 0;
+    let mut pace = Pace::each(DOCUMENTS);
+    for number in numbers {
+        pace.look(watch)?;
+        let names = names_of(groups, number);
+        count += names;
+    }
+    Ok(count)
+}
+
+/// How many names the content with this number has.
+fn names_of(groups: &BTreeMap<u32, BTreeSet<Name>>, number: u32) -> usize
+    ensures { result ≡ names_count groups.now number }
+{
+    match groups.get(&number) {
+        Some(names) => names.len(),
+        None => 1,
+    }
+}
+
+/// Adds a document with this number and body for each of these names that begins with one of the prefixes.
+fn add_named(
+    names: &BTreeSet<Name>,
+    number: u32,
+    held: &Held,
+    prefixes: &Prefixes,
+    shared: &mut Vec<SharedDocument>,
+) -> Result<(), AllocError>
+    ensures { OnOk result (documents_shared shared.new.items
+        ≡ documents_shared shared.old.items ++ filter (is_under_any prefixes.now) (map (λ name. document number name held.now) names.now.keys)) }
+{
+    for name in names.iter() {
+        add_one(name, number, held, prefixes, shared)?;
+    }
+    Ok(())
+}
+
+/// Adds a document with this name, number and body, if the name begins with one of the prefixes.
+fn add_one(
+    name: &Name,
+    number: u32,
+    held: &Held,
+    prefixes: &Prefixes,
+    shared: &mut Vec<SharedDocument>,
+) -> Result<(), AllocError>
+    ensures { OnOk result (documents_shared shared.new.items
+        ≡ documents_shared shared.old.items ++ filter (is_under_any prefixes.now) (document number name.now held.now ∷ [])) }
+{
+    if !prefixes.have(name.as_bytes()) {
+        return Ok(());
+    }
+    push_document(name, number, held, shared)
+}
+
+/// Adds a document with this name, number and body.
+fn push_document(
+    name: &Name,
+    number: u32,
+    held: &Held,
+    shared: &mut Vec<SharedDocument>,
+) -> Result<(), AllocError>
+    ensures { OnOk result (documents_shared shared.new.items ≡ documents_shared shared.old.items ++ document number name.now held.now ∷ []) }
+{
+    shared.push(SharedDocument {
+        number,
+        name: name.share()?,
+        held: held.share()?,
+    })?;
+    Ok(())
 }

@@ -10,7 +10,8 @@ use std::alloc::AllocError;
 /// for as long as either has them.
 #[derive(Drop)]
 pub struct SharedDocument {
-    /// By this the index finds the document. No contract of an index speaks of it.
+    /// By this the index finds the body. Documents that an index hands out for one query have the same number only if they have the
+    /// same body.
     pub number: u32,
     /// Its name.
     pub name: Name,

@@ -9,6 +9,7 @@ use crate::error::HeldError;
 use posting::Trigrams;
 use query::trigrams_of;
 use std::alloc::AllocError;
+use std::hash::{FoldHasher, Hasher};
 use std::marker::Model;
 use std::sync::Arc;
 
@@ -17,6 +18,8 @@ use std::sync::Arc;
 struct Analysed {
     body: Body,
     trigrams: Trigrams,
+    /// A hash of the body.
+    hash: u64,
 }
 
 /// A handle to a body and its trigrams, which all handles to it share. The trigrams are found only once.
@@ -50,7 +53,13 @@ impl Held {
             Ok(trigrams) => trigrams,
             Err(error) => return Err(HeldError { body, error }),
         };
-        match Arc::new(body.allocator(), Analysed { body, trigrams }) {
+        let hash = hash_of(body.as_bytes());
+        let analysed = Analysed {
+            body,
+            trigrams,
+            hash,
+        };
+        match Arc::new(analysed.body.allocator(), analysed) {
             Ok(shared) => Ok(Held { shared }),
             Err(refused) => Err(HeldError {
                 body: refused.value.body,
@@ -74,6 +83,11 @@ impl Held {
         &self.shared.body
     }
 
+    /// A hash of the body, which was computed once. No contract depends on it.
+    pub(crate) fn hash(&self) -> u64 {
+        self.shared.hash
+    }
+
     /// The trigrams of the body's lines, rising, each once.
     pub(crate) fn trigrams(&self) -> &Trigrams
         ensures trigrams { ListsTrigrams self.now result.now }
@@ -82,6 +96,13 @@ impl Held {
         let _bytes = self.shared.body.as_bytes();
         &self.shared.trigrams
     }
+}
+
+/// A hash of these bytes.
+pub(crate) fn hash_of(bytes: &[u8]) -> u64 {
+    let mut hasher = FoldHasher::default();
+    hasher.write(bytes);
+    hasher.finish()
 }
 
 /// The trigrams of a body's lines.

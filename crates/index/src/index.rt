@@ -1,6 +1,6 @@
 //! The index: the documents that commands leave.
 
-ghost use Rattle.std.specs.Prelude.{◌≡◌, ◌+◌, ◌^◌, ◌<◌, [], OnOk, OnErr, IfErr, IfOk, IsOk, IsTrue, IsFalse, false, option_map};
+ghost use Rattle.std.specs.Prelude.{◌≡◌, ◌+◌, ◌^◌, ◌<◌, [], OnOk, OnErr, IfErr, IfOk, IfSome, IsOk, IsTrue, IsFalse, false, option_map};
 ghost use Rattle.index.specs.declared.command.Command.TheVariants.{Put as put_command, Remove as remove_command, RemoveUnder as remove_under_command};
 ghost use Rattle.watch.specs.CalledOff.{IsCalledOffOnlyIf};
 ghost use Rattle.query.specs.Query.{formula_of};
@@ -239,8 +239,9 @@ impl Index {
         self.catalog.documents()
     }
 
-    /// The total length of the documents' bodies, in bytes. The index holds no other bodies, but for the one that a document had
-    /// while it waits to be taken out of the sets of its trigrams (`is_filling`).
+    /// The total length of the documents' bodies, in bytes. A body that several documents have counts for each of them, though the
+    /// index holds it once. It holds no other bodies, but for one that documents had while it waits to be taken out of the sets of its
+    /// trigrams (`is_filling`).
     pub fn held_bytes(&self) -> u64
         ensures { result ≡ body_bytes self.now.documents }
     {
@@ -253,6 +254,14 @@ impl Index {
         ensures { option_map (λ body. body.now) result ≡ get self.now.documents name.now }
     {
         self.catalog.body(name)
+    }
+
+    /// Another handle to the body of a document that is the same as this one, so that its trigrams need not be found again. `None` does
+    /// not say that no document has it: one is found by a hash, and it can have too many handles.
+    pub fn held_like(&self, body: &Body) -> Option<Held>
+        ensures { IfSome result (λ held. held ≡ body.now) }
+    {
+        self.catalog.held_like(body)
     }
 
     /// How many documents have trigrams that meet the query, and those of them whose names begin with one of the prefixes, in the
@@ -276,13 +285,10 @@ impl Index {
     {
         let _ = self.catalog.version();
         let _ = self.catalog.documents();
-        let chosen = self.catalog.candidates(alloc, query, watch)?;
+        let (chosen, count) = self.catalog.candidates(alloc, query, watch)?;
         let documents = self
             .catalog
             .chosen_documents_under(alloc, &chosen, prefixes, most, watch)?;
-        Ok(Candidates {
-            count: chosen.len() as u32,
-            documents,
-        })
+        Ok(Candidates { count, documents })
     }
 }

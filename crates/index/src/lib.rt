@@ -5,10 +5,12 @@
 #![tactic(auto)]
 
 mod body;
+mod by_name;
 mod catalog;
 mod command;
 mod document;
 mod error;
+mod groups;
 mod held;
 mod index;
 mod laws;

@@ -1,6 +1,6 @@
 //! What an index keeps of its documents: names and bodies by number, and the sets by which they are found.
 
-ghost use Rattle.std.specs.Prelude.{◌||◌, ◌≡◌, ℕ, false, ◌+◌, ◌<◌, ◌^◌, List, [], ◌∷◌, ◌++◌, length, map, OnOk, IfOk, IfSome, IsSome, IsTrue, None};
+ghost use Rattle.std.specs.Prelude.{◌||◌, ◌≡◌, ℕ, false, ◌+◌, ◌<◌, ◌^◌, List, [], ◌∷◌, ◌++◌, length, map, OnOk, IfOk, IfSome, IsSome, IsTrue, None, OnErr};
 ghost use Rattle.query.specs.Trigrams.{ListsTrigrams};
 ghost use Rattle.posting.specs.ListValue.{has};
 ghost use Rattle.index.specs.Private.Numbered.{document, document_at, body_bytes};
@@ -467,6 +467,36 @@ impl Store {
                 old: Some(old),
             });
         }
+    }
+
+    /// Replaces the body of the document with this number. Its number then waits (`replace_in_pieces`) if that is asked for and
+    /// nothing waits yet. An `Err` means that memory ran out; the documents stay as they are then.
+    pub(crate) fn replace_body(
+        &mut self,
+        number: u32,
+        held: Held,
+        in_pieces: bool,
+    ) -> Result<(), AllocError>
+        requires store { (last : ℕ) × IsStore last self.old }
+        requires there { IsSome (document_at number (stored self.old)) }
+        requires bytes { body_bytes (stored self.old) + length held < 2 ^ 64 }
+        ensures ok { OnOk result (stored self.new ≡ map (with_body_at number held) (stored self.old)) }
+        ensures err { OnErr result (stored self.new ≡ stored self.old) }
+        ensures store { (last : ℕ) → IsStore last self.old → IsStore last self.new }
+    {
+        if in_pieces {
+            if self.is_idle() {
+                self.replace_in_pieces(number, held);
+                return Ok(());
+            }
+        }
+        if self.sets.has_waiting(number) {
+            self.replace_later(number, held);
+            return Ok(());
+        }
+        let change = self.prepare(number, held.trigrams())?;
+        self.replace(number, &change, held);
+        Ok(())
     }
 
     /// Whether nothing waits.

@@ -11,7 +11,7 @@ use Rattle.std.proofs.lemmas.List.Sums.{sum_by-append}
 use Rattle.std.proofs.lemmas.List.Elements.{All-nil, All-cons, All-head, All-tail, All-weaker, All-append}
 use Rattle.std.proofs.Math.Seq.{take-append_seam, drop-append_seam, drop-append-add, get_or-append_seam}
 use Rattle.posting.specs.Stored.{groups, bytes_of, bytes_after}
-use Rattle.posting.specs.Private.Gaps.{limit, numbers_after, last_of, IsSpelled, IsPassed, IsBlock, IsLastPlace, IsCut}
+use Rattle.posting.specs.Private.Gaps.{limit, numbers_after, last_of, IsSpelled, IsStored, IsPassed, IsBlock, IsLastPlace, IsCut}
 use Rattle.posting.proofs.Rising.{All-left}
 use Rattle.posting.proofs.Groups.{first_low, below_limit, limit-zero, limit-rest, groups-one, groups-low, groups-high, Rise, rise-tail}
 use Rattle.posting.proofs.Groups.{rise_spelled, spelled_bytes, spelled_numbers, bytes_after-cons, bytes_after-nil, bytes_after-append}
@@ -117,6 +117,12 @@ up_to_last before [] h = All-nil (λ n. n ≤ last_of before [])
 up_to_last before (n ∷ numbers) h =
     let rest = rise-tail before n numbers h in
     rw (last_of-cons before n numbers) (All-cons (λ m. m ≤ last_of n numbers) n numbers (last_from n numbers rest) (up_to_last n numbers rest))
+
+-- a stored list's numbers are below the one after its last
+pub below_end : (bytes : List ℕ) (last : ℕ) → IsStored bytes last → All (λ n. n < last + 1) (numbers_after 0 bytes)
+below_end bytes last h =
+    All-weaker (λ n. n ≤ last_of 0 (numbers_after 0 bytes)) (λ n. n < last + 1) (λ n le. omega (arith, le, h.ends)) (numbers_after 0 bytes)
+    (up_to_last 0 (numbers_after 0 bytes) (rise_spelled 0 bytes h.spelled))
 
 -- ---- numbers left out at the end
 

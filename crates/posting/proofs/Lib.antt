@@ -9,6 +9,7 @@ pub mod Starts
 pub mod Meeting
 pub mod Leavings
 pub mod Merging
+pub mod Marks
 pub mod Tables
 pub mod PageLemmas
 pub mod Places

@@ -5,6 +5,7 @@ ghost use denote.Param.Send.{IsSync};
 ghost use Rattle.published.specs.Private.Shelf.{operated};
 
 use crate::shelf::{Operation, Shelf, Way};
+use index::Index;
 use std::thread::{Threads, join_mut};
 
 /// A part that is analysed in a thread of its own has at least so many bytes of bodies. To start a thread and to wait for it takes as
@@ -32,7 +33,7 @@ pub(crate) fn carry_out_all<R: Threads + Sync>(
     } else {
         Way::AtOnce
     };
-    analyse(rt, threads, operations);
+    analyse(rt, threads, &copy.index, operations);
     carry_out(copy, operations, way)
 }
 
@@ -51,12 +52,12 @@ fn carry_out(copy: &mut Shelf, operations: &[Operation], way: Way) -> usize
 }
 
 /// Analyses the bodies of these operations in up to `threads` parts of about equal bytes, each in a thread of its own where one can
-/// be started. With few bytes no thread is started. A body for which memory runs out stays as it is.
-fn analyse<R: Threads + Sync>(rt: &R, threads: usize, operations: &mut [Operation])
+/// be started. Those that documents of the index have are taken from there. With few bytes no thread is started. A body for which memory runs out stays as it is.
+fn analyse<R: Threads + Sync>(rt: &R, threads: usize, index: &Index, operations: &mut [Operation])
     ensures { operations.new ≡ operations.old }
 {
     let parts = (bytes_of(operations) / PART).min(threads);
-    analyse_parts(rt, parts.min(bodies_in(operations)), operations)
+    analyse_parts(rt, parts.min(bodies_in(operations)), index, operations)
 }
 
 /// How many bodies are not analysed.
@@ -73,11 +74,16 @@ fn bodies_in(operations: &[Operation]) -> usize {
 /// Analyses the bodies of these operations in so many parts. They are halved by their bytes at each step, and the front half
 /// goes to a new thread.
 #[cycle(analyse_parts)]
-fn analyse_parts<R: Threads + Sync>(rt: &R, parts: usize, operations: &mut [Operation])
+fn analyse_parts<R: Threads + Sync>(
+    rt: &R,
+    parts: usize,
+    index: &Index,
+    operations: &mut [Operation],
+)
     ensures { operations.new ≡ operations.old }
 {
     if parts < 2 {
-        return analyse_in_turn(operations);
+        return analyse_in_turn(index, operations);
     }
     let low = parts / 2;
     let high = parts - low;
@@ -86,21 +92,21 @@ fn analyse_parts<R: Threads + Sync>(rt: &R, parts: usize, operations: &mut [Oper
     let mut front = ||
         requires { IsSync R.row }
         ensures { first.exit.now ≡ first.entry.now }
-    { analyse_parts(rt, low, first) };
+    { analyse_parts(rt, low, index, first) };
     let mut back = ||
         requires { IsSync R.row }
         ensures { others.exit.now ≡ others.entry.now }
-    { analyse_parts(rt, high, others) };
+    { analyse_parts(rt, high, index, others) };
     join_mut(rt, &mut front, &mut back);
 }
 
 /// Analyses the bodies of these operations, one after the other.
-fn analyse_in_turn(operations: &mut [Operation])
+fn analyse_in_turn(index: &Index, operations: &mut [Operation])
     ensures { operations.new ≡ operations.old }
 {
     for at in 0..operations.len() {
         let operation = &mut operations[at];
-        operation.analyse();
+        operation.analyse(index);
     }
 }
 

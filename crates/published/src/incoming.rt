@@ -3,7 +3,7 @@
 ghost use Rattle.std.specs.Prelude.{◌≡◌, IfSome};
 
 use core::mem::replace_with;
-use index::{Body, Held};
+use index::{Body, Held, Index};
 use std::marker::Model;
 
 /// How far the body of a put has come.
@@ -42,11 +42,15 @@ impl Incoming {
         }
     }
 
-    /// Finds the trigrams of the body, and keeps them with it, unless that is done. If memory runs out, it stays to be
-    /// done.
-    pub(crate) fn analyse(&mut self)
+    /// Finds the trigrams of the body, and keeps them with it, unless that is done. If a document of the index has the same body, its
+    /// trigrams are taken. If memory runs out, it stays to be done.
+    pub(crate) fn analyse(&mut self, index: &Index)
         ensures { self.new ≡ self.old }
     {
+        if let Some(held) = self.like(index) {
+            self.stage = Stage::Analysed(held);
+            return;
+        }
         replace_with(
             self,
             (),
@@ -54,6 +58,16 @@ impl Incoming {
                 ensures { result.0 ≡ incoming }
             { (incoming.analysed(), ()) },
         );
+    }
+
+    /// The body with its trigrams, if it has none yet and a document of the index has the same.
+    fn like(&self, index: &Index) -> Option<Held>
+        ensures { IfSome result (λ held. held ≡ self.now) }
+    {
+        match &self.stage {
+            Stage::Plain(body) => index.held_like(body),
+            Stage::Analysed(_) => None,
+        }
     }
 
     fn analysed(self) -> Incoming

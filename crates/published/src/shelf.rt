@@ -71,12 +71,13 @@ impl Absorb<()> for Shelf {
 }
 
 impl Operation {
-    /// Finds the trigrams of the body that it brings, if it brings one, unless that is done or memory runs out.
-    pub(crate) fn analyse(&mut self)
+    /// Finds the trigrams of the body that it brings, if it brings one, unless that is done or memory runs out. A body that a document of
+    /// the index has is taken from there.
+    pub(crate) fn analyse(&mut self, index: &Index)
         ensures { self.new ≡ self.old }
     {
         if let Operation::Change(Update::Put(_, incoming)) = self {
-            incoming.analyse();
+            incoming.analyse(index);
         }
     }
 

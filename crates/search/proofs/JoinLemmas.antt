@@ -287,7 +287,7 @@ module _ (wanted : Wanted) where
 
   -- a limit that was set for the gathering alone
   pub joins-for : (set limit : Option ℕ) (documents : List SharedDocument) (j : Joined)
-      → Joins (record { prepared = wanted.prepared; view = wanted.view; limit = set }) limit documents j → Joins wanted limit documents j
+      → Joins (record { prepared = wanted.prepared; view = wanted.view; limit = set; known = wanted.known }) limit documents j → Joins wanted limit documents j
   joins-for set limit documents j is = record {
     hits = is.hits;
     found = is.found;

@@ -17,6 +17,7 @@ mod ViewLemmas
 mod GatherLemmas
 mod GathersLemmas
 mod JoinLemmas
+mod KnownLemmas
 mod FitLemmas
 mod AnswerLemmas
 mod FirstLemmas

@@ -143,7 +143,7 @@ placed-before documents more place is = record {
   inside = subst (λ home. place.end ≤ length home.held) (sym (home-before documents more place is.document)) is.inside;
 }
 
-placed-last : (documents : List SharedDocument) (last : SharedDocument) (place : Place) → IsPlaceIn (length documents) last.held place
+pub placed-last : (documents : List SharedDocument) (last : SharedDocument) (place : Place) → IsPlaceIn (length documents) last.held place
     → IsPlaced (documents ++ last ∷ []) place
 placed-last documents last place is = record {
   document = omega (arith, is.document, length-append documents (last ∷ []));

@@ -6,4 +6,5 @@ pub mod Parts
 pub mod Added
 pub mod Pieces
 pub mod Rows
+pub mod Known
 pub mod Gathered

@@ -1,7 +1,7 @@
 -- What a search has taken out of an index.
 use Rattle.std.specs.Prelude.{◌≡◌, ◌++◌, List, length}
 use Rattle.std.specs.FinMap.{len}
-use Rattle.index.specs.Shared.{documents_shared}
+use Rattle.index.specs.Shared.{documents_shared, NumbersTellBodies}
 use Rattle.index.specs.State.{State, IsState}
 use Rattle.index.specs.declared.document.SharedDocument.{SharedDocument}
 use Rattle.search.specs.declared.first.First.{First}
@@ -14,7 +14,8 @@ use Rattle.prepare.specs.Request.{Request}
 use Rattle.search.specs.Scan.{candidates_of}
 
 -- It was taken from an index in this state, for this request: the number of all candidates, and some or all of these documents, which
--- are the candidates whose names begin with texts with one of which every name begins that is asked for.
+-- are the candidates whose names begin with texts with one of which every name begins that is asked for. Those with the same number
+-- have the same body.
 pub record IsTakenAmong (all : List SharedDocument) (state : State) (request : Request) (taken : Taken) : Type 0 where
   pub prepared : request_of taken.prepared.now ≡ request
   pub version : taken.version ≡ state.version
@@ -22,6 +23,7 @@ pub record IsTakenAmong (all : List SharedDocument) (state : State) (request : R
   pub count : taken.count ≡ length (candidates_of state request.pattern.line)
   pub is_state : IsState state
   pub candidates : AreFronted state request.pattern (documents_shared all)
+  pub same : NumbersTellBodies taken.candidates.items
 
 -- All of them were taken.
 abbrev pub IsTakenOf : State → Request → Taken → Type 0

@@ -5,6 +5,7 @@ ghost use Rattle.watch.specs.CalledOff.{IsCalledOffOnlyIf};
 ghost use Rattle.prepare.specs.Prepared.{request_of};
 ghost use Rattle.search.specs.Taken.{IsFirstOf};
 
+use crate::known::Known;
 use crate::names::named;
 use crate::side_by_side::{documents_with, gather_part};
 use crate::taken::{Taken, take_up_to, wanted_by, with_counts};
@@ -89,7 +90,8 @@ impl FirstPart<'_> {
             candidates,
         } = self.taken;
         let kept = named(alloc, prepared, candidates, watch)?;
-        let wanted = wanted_by(prepared);
+        let none = Known::none(alloc);
+        let wanted = wanted_by(prepared, &none);
         let joined = gather_part(alloc, &wanted, kept.as_slice(), ahead, watch)?;
         if !joined.more {
             return Ok(None);

@@ -5,12 +5,14 @@ ghost use Rattle.std.specs.Prelude.{All, map, ◌≡◌, ◌+◌, ◌≤◌, ◌
 ghost use Rattle.ere.specs.Tree.{form};
 ghost use Rattle.watch.specs.CalledOff.{IsCalledOffOnlyIf};
 ghost use Rattle.watch.specs.declared.unanswered.Unanswered.TheVariants.{OutOfMemory};
+ghost use Rattle.search.specs.Private.Known.{AreTold, FindsHits, IsTold, Knows};
 ghost use Rattle.search.specs.Private.Gathered.{Gathers, GathersMore, HaveOwnNames, AddsRows, all_or_one, asked, beyond, kept_of, left_from, number_of, one_more, shown_hits, shows_lines};
 ghost use Rattle.search.specs.Private.Seekers.{CanShow, IsOneLine};
 ghost use Rattle.search.specs.Private.Ways.{AreFew, Finds};
 ghost use Rattle.search.specs.Rows.{at_most, is_over, limited};
 ghost use Rattle.views.specs.View.{shows_names};
 
+use crate::known::{Known, has_enough, list_entry};
 use crate::matching::{few_documents, scan_document};
 use crate::rows::append_rows;
 use crate::seeker::{Seeker, compile_shown, shown_seeker};
@@ -31,6 +33,8 @@ pub(crate) struct Wanted<'p> {
     pub(crate) view: View,
     /// The most lines, or names, that are shown.
     pub(crate) limit: Option<u32>,
+    /// The contents that were matched before.
+    pub(crate) known: &'p Known,
 }
 
 /// What is shown of some documents.
@@ -63,7 +67,8 @@ pub(crate) fn gather<W: Watch>(
     documents: &[SharedDocument],
     watch: &mut W,
 ) -> Result<Gathered, Unanswered>
-    ensures gathers { IfOk result (λ gathered. HaveOwnNames documents.now → Gathers wanted.now documents.now gathered) }
+    requires known { Knows wanted.now }
+    ensures gathers { IfOk result (λ gathered. HaveOwnNames documents.now → AreTold wanted.now documents.now → Gathers wanted.now documents.now gathered) }
     ensures called_off { IfErr result (IsCalledOffOnlyIf (W.has_said_no watch.new)) }
 {
     let mut gathered = Gathered {
@@ -88,8 +93,9 @@ fn gather_few<W: Watch>(
     gathered: &mut Gathered,
     watch: &mut W,
 ) -> Result<usize, Unanswered>
+    requires known { Knows wanted.now }
     ensures few { IfOk result (AreFew (form wanted.now.prepared.now.line.tree) documents.now) }
-    ensures gathers { IfOk result (λ few. GathersMore wanted.now (take few documents.now) gathered.old gathered.new) }
+    ensures gathers { IfOk result (λ few. AreTold wanted.now documents.now → GathersMore wanted.now (take few documents.now) gathered.old gathered.new) }
     ensures called_off { IfErr result (IsCalledOffOnlyIf (W.has_said_no watch.new)) }
 {
     let few = few_documents(&wanted.prepared.line, documents);
@@ -119,7 +125,8 @@ fn gather_compiled<W: Watch>(
     gathered: &mut Gathered,
     watch: &mut W,
 ) -> Result<(), Unanswered>
-    ensures gathers { OnOk result (GathersMore wanted.now documents.now gathered.old gathered.new) }
+    requires known { Knows wanted.now }
+    ensures gathers { OnOk result (AreTold wanted.now documents.now → GathersMore wanted.now documents.now gathered.old gathered.new) }
     ensures called_off { IfErr result (IsCalledOffOnlyIf (W.has_said_no watch.new)) }
 {
     if documents.is_empty() {
@@ -151,7 +158,8 @@ fn gather_by<W: Watch>(
 ) -> Result<(), Unanswered>
     requires way { Finds (form wanted.now.prepared.now.line.tree) way.old }
     requires seeker { CanShow wanted.now seeker.old }
-    ensures gathers { OnOk result (GathersMore wanted.now documents.now gathered.old gathered.new) }
+    requires known { Knows wanted.now }
+    ensures gathers { OnOk result (AreTold wanted.now documents.now → GathersMore wanted.now documents.now gathered.old gathered.new) }
     ensures called_off { IfErr result (IsCalledOffOnlyIf (W.has_said_no watch.new)) }
 {
     for document in documents {
@@ -175,30 +183,49 @@ fn gather_one<W: Watch>(
 ) -> Result<(), Unanswered>
     requires way { Finds (form wanted.now.prepared.now.line.tree) way.old }
     requires seeker { CanShow wanted.now seeker.old }
+    requires known { Knows wanted.now }
     requires more { gathered.old.more ≡ false }
     ensures way { Finds (form wanted.now.prepared.now.line.tree) way.new }
     ensures seeker { CanShow wanted.now seeker.new }
-    ensures gathers { OnOk result (GathersMore wanted.now (document.now ∷ []) gathered.old gathered.new) }
+    ensures gathers { OnOk result (IsTold wanted.now.known.now.entries.items document.now → GathersMore wanted.now (document.now ∷ []) gathered.old gathered.new) }
     ensures called_off { IfErr result (IsCalledOffOnlyIf (W.has_said_no watch.new)) }
 {
     let left = left_of(wanted.limit, gathered.count);
     let before = gathered.hits.lines().len();
     let most = beyond(before, asked(wanted.view, left))?;
-    scan_document(
-        &wanted.prepared.line,
-        way,
-        document,
-        most,
-        &mut gathered.hits,
-        watch,
-    )?;
+    find_hits(wanted, way, document, most, &mut gathered.hits, watch)?;
     add_rows(wanted, left, before, document, seeker, gathered, watch)?;
     keep(wanted, &mut gathered.hits);
     Ok(())
 }
 
+/// Adds the hits of one document, and stops as soon as there are `most`. If its content was matched before, it is not matched again.
+///
+/// After an `Err` there are no hits.
+fn find_hits<W: Watch>(
+    wanted: &Wanted<'_>,
+    way: &mut Way<'_>,
+    document: &SharedDocument,
+    most: Option<usize>,
+    hits: &mut Places,
+    watch: &mut W,
+) -> Result<(), Unanswered>
+    requires way { Finds (form wanted.now.prepared.now.line.tree) way.old }
+    requires known { Knows wanted.now }
+    ensures way { Finds (form wanted.now.prepared.now.line.tree) way.new }
+    ensures hits { OnOk result (FindsHits wanted.now document.now most hits.old hits.new) }
+    ensures called_off { IfErr result (IsCalledOffOnlyIf (W.has_said_no watch.new)) }
+{
+    if let Some(entry) = wanted.known.entry(document.number) {
+        if has_enough(entry, most, hits.lines().len()) {
+            return list_entry(entry, document, most, hits, watch);
+        }
+    }
+    scan_document(&wanted.prepared.line, way, document, most, hits, watch)
+}
+
 /// How many hits of a document say what is shown of it, where so many lines, or names, are left of the limit. `None` means all.
-fn asked(view: View, left: Option<u32>) -> Option<usize>
+pub(crate) fn asked(view: View, left: Option<u32>) -> Option<usize>
     ensures { result ≡ asked view left }
 {
     match view {
@@ -262,7 +289,7 @@ fn add_rows<W: Watch>(
 }
 
 /// How many lines, or names, there are to be shown of a document with so many hits.
-fn number_of(view: View, hits: usize) -> usize
+pub(crate) fn number_of(view: View, hits: usize) -> usize
     ensures { result ≡ number_of view hits }
 {
     if shows_names(view) {

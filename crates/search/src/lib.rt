@@ -6,10 +6,12 @@
 mod ahead;
 mod first;
 mod gathered;
+mod known;
 mod laws;
 mod matching;
 mod names;
 mod piece;
+mod repeated;
 mod rows;
 mod scan;
 mod seeker;

@@ -134,7 +134,7 @@ fn add_document<W: Watch>(
 
 /// Adds the places of the lines that pass the test of one body, piece after piece, until there are `most`. `document` says which
 /// of the documents with a hit it is.
-fn scan_body<W: Watch>(
+pub(crate) fn scan_body<W: Watch>(
     test: &Test,
     way: &mut Way<'_>,
     document: u32,

@@ -4,6 +4,7 @@ ghost use Rattle.std.specs.Prelude.{◌≡◌, ◌≤◌, ◌++◌, false, lengt
 ghost use Rattle.index.specs.declared.document.SharedDocument.{SharedDocument};
 ghost use Rattle.watch.specs.CalledOff.{IsCalledOffOnlyIf};
 ghost use Rattle.watch.specs.declared.unanswered.Unanswered.TheVariants.{OutOfMemory};
+ghost use Rattle.search.specs.Private.Known.{AreTold, Knows};
 ghost use Rattle.search.specs.Private.Gathered.{HasGap, HaveOwnNames, Joins, cut_gap, gap_rows, left_from, shows_context};
 ghost use Rattle.views.specs.Parts.{text_of_parts};
 ghost use Rattle.views.specs.Text.{text_of_hits, text_of_rows};
@@ -22,10 +23,10 @@ use watch::{Pace, Unanswered, Watch};
 
 /// A part has at least so many bytes of bodies. To start a thread and to wait for it takes as long as to look through some
 /// twentieth of that.
-const PART: usize = 524_288;
+pub(crate) const PART: usize = 524_288;
 
 /// How many documents' lengths are added up between two looks at whether the answer is wanted.
-const DOCUMENTS: usize = 8192;
+pub(crate) const DOCUMENTS: usize = 8192;
 
 /// What stands between two stretches of lines.
 const GAP: &[u8] = b"--\n";
@@ -60,7 +61,8 @@ pub(crate) fn gather_side_by_side<R: Threads + Sync, W: Watch + Copy + Send>(
     ahead: usize,
     watch: W,
 ) -> Result<Joined, Unanswered>
-    ensures joins { IfOk result (λ joined. HaveOwnNames documents.now → Joins wanted.now wanted.now.limit documents.now joined) }
+    requires known { Knows wanted.now }
+    ensures joins { IfOk result (λ joined. HaveOwnNames documents.now → AreTold wanted.now documents.now → Joins wanted.now wanted.now.limit documents.now joined) }
     ensures called_off { IfErr result (IsCalledOffOnlyIf ((w : W) × W.has_said_no w)) }
 {
     let mut own = watch;
@@ -70,7 +72,10 @@ pub(crate) fn gather_side_by_side<R: Threads + Sync, W: Watch + Copy + Send>(
 }
 
 /// The bytes of the documents' bodies together. An `Err` is `CalledOff`.
-fn bytes_of<W: Watch>(documents: &[SharedDocument], watch: &mut W) -> Result<usize, Unanswered>
+pub(crate) fn bytes_of<W: Watch>(
+    documents: &[SharedDocument],
+    watch: &mut W,
+) -> Result<usize, Unanswered>
     ensures { IfErr result (IsCalledOffOnlyIf (W.has_said_no watch.new)) }
 {
     let mut pace = Pace::each(DOCUMENTS);
@@ -116,7 +121,8 @@ fn gather_parts<R: Threads + Sync, W: Watch + Copy + Send>(
     ahead: usize,
     watch: W,
 ) -> Result<Joined, Unanswered>
-    ensures joins { IfOk result (λ joined. HaveOwnNames documents.now → Joins wanted.now wanted.now.limit documents.now joined) }
+    requires known { Knows wanted.now }
+    ensures joins { IfOk result (λ joined. HaveOwnNames documents.now → AreTold wanted.now documents.now → Joins wanted.now wanted.now.limit documents.now joined) }
     ensures called_off { IfErr result (IsCalledOffOnlyIf ((w : W) × W.has_said_no w)) }
 {
     if parts < 2 {
@@ -130,13 +136,15 @@ fn gather_parts<R: Threads + Sync, W: Watch + Copy + Send>(
     let at = documents_with(documents, bytes / parts * low, &mut own)?;
     let (first, others) = documents.split_at(at);
     let front = move || -> Result<Joined, Unanswered>
-        requires { IsSync R.row × IsSend W.row }
-        ensures joins { IfOk result (λ joined. HaveOwnNames first.entry.now → Joins wanted.entry.now wanted.entry.now.limit first.entry.now joined) }
+        requires threads { IsSync R.row × IsSend W.row }
+        requires known { Knows wanted.now }
+        ensures joins { IfOk result (λ joined. HaveOwnNames first.entry.now → AreTold wanted.entry.now first.entry.now → Joins wanted.entry.now wanted.entry.now.limit first.entry.now joined) }
         ensures called_off { IfErr result (IsCalledOffOnlyIf ((w : W) × W.has_said_no w)) }
     { gather_parts(rt, alloc, wanted, first, low, ahead, watch) };
     let back = move || -> Result<Joined, Unanswered>
-        requires { IsSync R.row × IsSend W.row }
-        ensures joins { IfOk result (λ joined. HaveOwnNames others.entry.now → Joins wanted.entry.now wanted.entry.now.limit others.entry.now joined) }
+        requires threads { IsSync R.row × IsSend W.row }
+        requires known { Knows wanted.now }
+        ensures joins { IfOk result (λ joined. HaveOwnNames others.entry.now → AreTold wanted.entry.now others.entry.now → Joins wanted.entry.now wanted.entry.now.limit others.entry.now joined) }
         ensures called_off { IfErr result (IsCalledOffOnlyIf ((w : W) × W.has_said_no w)) }
     { gather_parts(rt, alloc, wanted, others, high, ahead, watch) };
     let (found, rest) = join(rt, front, back);
@@ -161,7 +169,8 @@ pub(crate) fn gather_part<W: Watch>(
     ahead: usize,
     watch: &mut W,
 ) -> Result<Joined, Unanswered>
-    ensures joins { IfOk result (λ joined. HaveOwnNames documents.now → Joins wanted.now wanted.now.limit documents.now joined) }
+    requires known { Knows wanted.now }
+    ensures joins { IfOk result (λ joined. HaveOwnNames documents.now → AreTold wanted.now documents.now → Joins wanted.now wanted.now.limit documents.now joined) }
     ensures called_off { IfErr result (IsCalledOffOnlyIf (W.has_said_no watch.new)) }
 {
     let gathered = gather(alloc, wanted, documents, watch)?;
@@ -249,7 +258,8 @@ fn fitted<W: Watch>(
     ahead: usize,
     watch: &mut W,
 ) -> Result<Joined, Unanswered>
-    ensures joins { IfOk result (λ joined. HaveOwnNames documents.now → Joins wanted.now wanted.now.limit documents.now back
+    requires known { Knows wanted.now }
+    ensures joins { IfOk result (λ joined. HaveOwnNames documents.now → AreTold wanted.now documents.now → Joins wanted.now wanted.now.limit documents.now back
         → Joins wanted.now (left_from wanted.now.limit before) documents.now joined) }
     ensures called_off { IfErr result (IsCalledOffOnlyIf (W.has_said_no watch.new)) }
 {
@@ -261,6 +271,7 @@ fn fitted<W: Watch>(
         prepared: wanted.prepared,
         view: wanted.view,
         limit,
+        known: wanted.known,
     };
     gather_part(alloc, &wanted, documents, ahead, watch)
 }

@@ -11,6 +11,7 @@ ghost use Rattle.search.specs.Private.Parts.{AreFirstFronted, IsTakenUpTo};
 ghost use Rattle.search.specs.Taken.{IsTakenOf};
 
 use crate::gathered::{Wanted, gather};
+use crate::known::{Known, know, know_side_by_side};
 use crate::names::named;
 use crate::side_by_side::{Joined, gather_part, gather_side_by_side};
 use index::{Candidates, Index, SharedDocument};
@@ -173,11 +174,15 @@ impl Taken<'_> {
         ensures called_off { IfErr result (IsCalledOffOnlyIf (W.has_said_no watch.new)) }
     {
         let kept = named(alloc, self.prepared, self.candidates, watch)?;
+        let none = Known::none(alloc);
         let wanted = Wanted {
             prepared: self.prepared,
             view: View::Lines,
             limit: None,
+            known: &none,
         };
+        let known = know(alloc, &wanted, kept.as_slice(), watch)?;
+        let wanted = with_known(&wanted, &known);
         let gathered = gather(alloc, &wanted, kept.as_slice(), watch)?;
         let contents = Contents {
             version: self.version,
@@ -199,7 +204,10 @@ impl Taken<'_> {
         ensures called_off { IfErr result (IsCalledOffOnlyIf (W.has_said_no watch.new)) }
     {
         let kept = named(alloc, self.prepared, self.candidates, watch)?;
-        let wanted = wanted_by(self.prepared);
+        let none = Known::none(alloc);
+        let wanted = wanted_by(self.prepared, &none);
+        let known = know(alloc, &wanted, kept.as_slice(), watch)?;
+        let wanted = with_known(&wanted, &known);
         let joined = gather_part(alloc, &wanted, kept.as_slice(), 0, watch)?;
         with_counts(
             alloc,
@@ -230,7 +238,10 @@ impl Taken<'_> {
     {
         let mut own = watch;
         let kept = named(alloc, self.prepared, self.candidates, &mut own)?;
-        let wanted = wanted_by(self.prepared);
+        let none = Known::none(alloc);
+        let wanted = wanted_by(self.prepared, &none);
+        let known = know_side_by_side(rt, alloc, &wanted, kept.as_slice(), most, watch)?;
+        let wanted = with_known(&wanted, &known);
         let joined = gather_side_by_side(rt, alloc, &wanted, kept.as_slice(), most, ahead, watch)?;
         with_counts(
             alloc,
@@ -243,16 +254,33 @@ impl Taken<'_> {
     }
 }
 
-/// What is gathered for a search.
-pub(crate) fn wanted_by(prepared: &Prepared) -> Wanted<'_>
+/// What is gathered for a search, where these contents were matched before.
+pub(crate) fn wanted_by<'p>(prepared: &'p Prepared, known: &'p Known) -> Wanted<'p>
     ensures prepared { result.prepared.now ≡ prepared.now }
     ensures limit { result.limit ≡ prepared.now.limit }
     ensures view { result.view ≡ prepared.now.view }
+    ensures known { result.known.now ≡ known.now }
 {
     Wanted {
         prepared,
         view: prepared.view,
         limit: prepared.limit,
+        known,
+    }
+}
+
+/// The same, where these contents were matched before.
+fn with_known<'p>(wanted: &Wanted<'p>, known: &'p Known) -> Wanted<'p>
+    ensures prepared { result.prepared.now ≡ wanted.now.prepared.now }
+    ensures limit { result.limit ≡ wanted.now.limit }
+    ensures view { result.view ≡ wanted.now.view }
+    ensures known { result.known.now ≡ known.now }
+{
+    Wanted {
+        prepared: wanted.prepared,
+        view: wanted.view,
+        limit: wanted.limit,
+        known,
     }
 }
 

@@ -197,7 +197,8 @@ function Window:hear()
     end
   end)
   client:on("loading", function(message)
-    if window and window.client == client then
+    -- an answer can come before the last of these, and then it stays told
+    if window and window.client == client and not window.is_answered then
       window:tell(("%d of %d files are read"):format(message.done, message.of))
     end
   end)
@@ -232,6 +233,7 @@ end
 -- Searches for the same once more.
 function Window:again()
   self:cancel()
+  self.is_answered = false
   local query = self.asked
   if not query or query.pattern == "" then
     self:show_first({})
@@ -250,6 +252,7 @@ function Window:again()
       self:show_first(message.documents or {})
     end
   end, function(last, fault)
+    self.is_answered = true
     if fault then
       self:tell(search.fault(fault))
       return

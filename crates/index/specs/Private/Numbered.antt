@@ -1,20 +1,19 @@
--- The documents of an index as it keeps them: each has a number, by which it is found, and they rise by their numbers.
-use Rattle.std.specs.Prelude.{◌≡◌, ◌≢◌, true, ℕ, ◌+◌, ◌<◌, ◌≤◌, ◌==◌, ◌&&◌, not, Bool, if◌then◌else◌, List, [], ◌∷◌, ◌++◌, map, filter, length, sum}
-use Rattle.std.specs.Prelude.{All, AllPairs, Option, Some, None, is_some, bytes_eq, Contains, ◌↔◌}
+-- The documents of an index as it keeps them: each has the number of its content, by which it is found.
+use Rattle.std.specs.Prelude.{◌≡◌, ◌≢◌, ℕ, ◌<◌, ◌≤◌, ◌==◌, ◌&&◌, Bool, if◌then◌else◌, List, [], ◌∷◌, ◌++◌, map, length, sum}
+use Rattle.std.specs.Prelude.{All, AllPairs, Option, Some, None, bytes_eq, Contains, ◌↔◌}
 use Rattle.std.specs.Ordering.{nat_cmp}
 use Rattle.std.specs.Cmp.Lexicographic.{slice_cmp}
 use Rattle.std.specs.List.{list_any}
-use Rattle.std.specs.List.Sorted.{IsStrictlyIncreasing, IsStrictlySortedBy}
+use Rattle.std.specs.List.Sorted.{IsStrictlySortedBy}
 use Rattle.query.specs.Trigrams.{trigrams_of_body}
 use Rattle.query.specs.Query.{Formula, is_met}
 use Rattle.posting.specs.ListValue.{has}
-use Rattle.index.specs.declared.command.Command.{Command}
-use Rattle.index.specs.declared.command.Command.TheVariants.{Put, Remove, RemoveUnder}
 use Rattle.index.specs.declared.document.SharedDocument.{SharedDocument}
 use Rattle.index.specs.Text.{IsName, IsBody}
 use Rattle.prefixes.specs.Under.{begins_with, is_under_one}
 
--- A document: its number is the place, among all commands and counted from 1, of the Put that made it.
+-- A document, or a content with one of its names: its number is the place, among all commands and counted from 1, of the Put that made
+-- the content.
 pub record Document : Type 0 where
   pub number : ℕ
   pub name : List ℕ
@@ -35,18 +34,6 @@ unfoldable pub number_of : List ℕ → List Document → Option ℕ
 number_of name [] = None
 number_of name (first ∷ others) = if bytes_eq first.name name then Some first.number else number_of name others
 
--- whether a document has the name
-abbrev pub is_taken : List ℕ → List Document → Bool
-is_taken name documents = is_some (number_of name documents)
-
--- the document, with this body if it has the name
-abbrev pub with_body : List ℕ → List ℕ → Document → Document
-with_body name body d = if bytes_eq d.name name then document d.number d.name body else d
-
--- the documents with other names
-abbrev pub without : List ℕ → List Document → List Document
-without name documents = filter (λ d. not (bytes_eq d.name name)) documents
-
 -- whether the document's name begins with the text
 abbrev pub is_under : List ℕ → Document → Bool
 is_under text d = begins_with text d.name
@@ -54,18 +41,6 @@ is_under text d = begins_with text d.name
 -- whether the name of some document begins with the text
 abbrev pub has_under : List ℕ → List Document → Bool
 has_under text documents = list_any (is_under text) documents
-
--- the documents whose names do not begin with the text
-abbrev pub without_under : List ℕ → List Document → List Document
-without_under text documents = filter (λ d. not (is_under text d)) documents
-
--- The documents after one more command, which has this place among all commands, counted from 1. A Put of a name that a
--- document has replaces its body and keeps its number.
-abbrev pub documents_after : ℕ → Command → List Document → List Document
-documents_after place (Put name body) documents =
-    if is_taken name documents then map (with_body name body) documents else documents ++ document place name body ∷ []
-documents_after place (Remove name) documents = without name documents
-documents_after place (RemoveUnder prefix) documents = without_under prefix documents
 
 -- whether the trigrams of the document's body meet the formula
 abbrev pub meets : Formula → Document → Bool
@@ -107,10 +82,6 @@ pub record State : Type 0 where
 abbrev pub state : ℕ → List Document → State
 state version documents = record { version = version; documents = documents }
 
--- The state after one more command. It depends only on the state and the command.
-abbrev pub applied : Command → State → State
-applied command s = state (s.version + 1) (documents_after (s.version + 1) command s.documents)
-
 -- the total length of all bodies, in bytes
 abbrev pub body_bytes : List Document → ℕ
 body_bytes documents = sum (map (λ d. length d.body) documents)
@@ -119,11 +90,12 @@ body_bytes documents = sum (map (λ d. length d.body) documents)
 abbrev pub IsGoodDocument : ℕ → Document → Type 0
 IsGoodDocument version d = (0 < d.number) × (d.number ≤ version) × IsName d.name × IsBody d.body
 
--- Numbers rise, each from 1 to the version. No two documents have the same name.
+-- Names rise, so no two documents have the same one, and documents with the same number have the same body.
 pub record IsState (s : State) : Type 0 where
-  pub rise : IsStrictlyIncreasing (map (λ d. d.number) s.documents)
+  pub rise : RisesByName s.documents
   pub good : All (λ d. IsGoodDocument s.version d) s.documents
   pub names : AllPairs (λ d e. d.name ≢ e.name) s.documents
+  pub same : (d e : Document) → Contains s.documents d → Contains s.documents e → d.number ≡ e.number → d.body ≡ e.body
 
 -- a document that is handed out, as a value
 abbrev pub document_of : SharedDocument → Document
@@ -132,10 +104,3 @@ document_of shared = document shared.number shared.name shared.held
 -- documents that are handed out, as values
 abbrev pub documents_shared : List SharedDocument → List Document
 documents_shared shared = map document_of shared
-
--- A document whose name begins with the text was taken out, which is no command.
-pub record IsTakenUnder (text : List ℕ) (old new : State) : Type 0 where
-  pub name : List ℕ
-  pub begins : begins_with text name ≡ true
-  pub left : new ≡ state old.version (without name old.documents)
-  pub fewer : length new.documents < length old.documents

@@ -1,15 +1,19 @@
 -- What an index keeps of its documents.
-use Rattle.std.specs.Prelude.{◌≡◌, ℕ, ◌<◌, ◌^◌, not, ◌&&◌, IsTrue, IsSome, List, length}
+use Rattle.std.specs.Prelude.{◌≡◌, ℕ, ◌<◌, ◌≤◌, ◌^◌, not, ◌&&◌, IsTrue, IsSome, List, length}
 use Rattle.std.specs.Ordering.{nat_cmp}
 use Rattle.std.specs.Cmp.Lexicographic.{slice_cmp}
-use Rattle.std.specs.BTreeMap.{BTreeMap, get}
+use Rattle.std.specs.BTreeMap.{BTreeMap, IsOrdered, btree_map_len, get}
 use Rattle.std.specs.Vec.{vec_len, vec_capacity}
 use Rattle.query.specs.Trigrams.{trigrams_of_body}
 use Rattle.posting.specs.ListValue.{has, HasRoom}
 use Rattle.posting.specs.Postings.{set_of, IsPrepared, AllDiffer}
 use Rattle.index.specs.declared.sets.Change.{Change}
 use Rattle.index.specs.declared.store.Store.{Store}
-use Rattle.index.specs.Private.Numbered.{Document, document_at, number_of, state, body_bytes, IsState}
+use Rattle.index.specs.Text.{IsName}
+use Rattle.index.specs.State.{body_bytes}
+use Rattle.index.specs.Private.Numbered.{Document, document_at, body_bytes as content_bytes}
+use Rattle.index.specs.Private.Contents.{Groups, AreContents, AreGroupsOf, has_name, is_number, named}
+use Rattle.index.specs.Private.Plain.{plain_documents}
 use Rattle.index.specs.Private.Slots.{documents_in, RiseTo, FewAreEmpty}
 use Rattle.index.specs.Private.Sets.{AreSetsOf, NoneIsLeft, trigrams_at}
 
@@ -23,7 +27,7 @@ pub record IsStore (last : ℕ) (store : Store) : Type 0 where
   pub few : FewAreEmpty store.slots.items
   pub sets : AreSetsOf (stored store) store.sets
   pub counted : store.count ≡ length (stored store)
-  pub bytes : store.held_bytes ≡ body_bytes (stored store)
+  pub bytes : store.held_bytes ≡ content_bytes (stored store)
 
 -- There is room for one more document, with this number and this body.
 pub record HasPlaceFor (store : Store) (number : ℕ) (body : List ℕ) : Type 0 where
@@ -42,9 +46,15 @@ pub record IsReadyFor (store : Store) (number : ℕ) (body : List ℕ) (change :
   pub room : IsPrepared store.sets.postings number change.fresh
   pub none_left : NoneIsLeft store.sets.waiting
 
--- The store and the numbers are those of one state.
-pub record IsIndex (version : ℕ) (numbers : BTreeMap (List ℕ) ℕ) (store : Store) : Type 0 where
+-- The numbers and the groups of names are those of the contents that the store keeps: a name has a number exactly if it is one of the
+-- names of the content with it. The count of bytes is that of all documents.
+pub record IsIndex (version : ℕ) (numbers : BTreeMap (List ℕ) ℕ) (groups : Groups) (store : Store) (held_bytes : ℕ) : Type 0 where
   pub kept : IsStore version store
-  pub is_state : IsState (state version (stored store))
-  pub number : (name : List ℕ) → get (slice_cmp nat_cmp) numbers name ≡ number_of name (stored store)
+  pub contents : AreContents version (stored store)
+  pub groups_of : AreGroupsOf (stored store) groups
+  pub names : (number : ℕ) (name : List ℕ) → has_name groups (stored store) number name ≡ is_number number (get (slice_cmp nat_cmp) numbers name)
+  pub ordered : IsOrdered (slice_cmp nat_cmp) numbers
+  pub good : (name : List ℕ) → IsSome (get (slice_cmp nat_cmp) numbers name) → IsName name
+  pub fewer : btree_map_len numbers ≤ version
+  pub bytes : held_bytes ≡ body_bytes (plain_documents (named numbers (stored store)))
   pub few : version < 2 ^ 32

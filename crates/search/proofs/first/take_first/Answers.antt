@@ -1,6 +1,7 @@
 use Rattle.std.proofs.Common.{◌++◌, List, drop, take, ap, sym, ◌∙◌, subst, append_assoc, arith}
 use Rattle.std.proofs.lemmas.List.{append-nil, take-append-drop}
-use Rattle.index.specs.Shared.{documents_shared}
+use Rattle.index.specs.Shared.{documents_shared, NumbersTellBodies}
+use Rattle.search.proofs.KnownLemmas.{told-take}
 use Rattle.index.specs.declared.document.SharedDocument.{SharedDocument}
 use Rattle.prepare.specs.Prepared.{request_of}
 use Rattle.search.specs.Front.{AreFronted}
@@ -36,5 +37,6 @@ returns-clause-first g c =
             candidates =
                 subst (λ (ds : List SharedDocument). AreFronted c.args.index.now (request_of c.args.prepared.now).pattern (documents_shared ds)) (sym same)
                 up_to.is.candidates;
+            same = subst NumbersTellBodies (sym c.truncate.ensures.items) (told-take few items up_to.is.same);
           };
     }

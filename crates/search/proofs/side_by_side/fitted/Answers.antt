@@ -6,7 +6,7 @@ use Rattle.search.proofs.LimitLemmas.{nothing_taken, is_over-left}
 use Rattle.search.proofs.side_by_side.fitted.Goals as goal
 
 pub returns-then-fits-clause-joins : goal.returns-then-fits-clause-joins
-returns-then-fits-clause-joins g c = λ own is.
+returns-then-fits-clause-joins g c = λ own told is.
     let wanted = c.args.wanted.now in
     let documents = c.args.documents.now in
     let back = c.args.back in
@@ -21,7 +21,7 @@ pub returns-clause-joins : goal.returns-clause-joins
 returns-clause-joins g c =
     let wanted = c.args.wanted.now in
     let documents = c.args.documents.now in
-    IfOk-weaker c.gather_part.result _ _ (λ joined is. λ own before.
+    IfOk-weaker c.gather_part.result _ _ (λ joined is. λ own told before.
     joins-for wanted c.left_of-limit.result (left_from wanted.limit c.args.before) documents joined
-    (subst (λ l. Joins (record { prepared = wanted.prepared; view = wanted.view; limit = c.left_of-limit.result }) l documents joined)
-    c.left_of-limit.ensures (is own))) c.gather_part.ensures.joins
+    (subst (λ l. Joins (record { prepared = wanted.prepared; view = wanted.view; limit = c.left_of-limit.result; known = wanted.known }) l documents joined)
+    c.left_of-limit.ensures (is own told))) c.gather_part.ensures.joins

@@ -5,8 +5,8 @@ use Rattle.search.proofs.JoinLemmas.{joins-one}
 use Rattle.search.proofs.side_by_side.gather_part.Goals as goal
 
 pub returns-clause-joins : goal.returns-clause-joins
-returns-clause-joins g c = λ own.
+returns-clause-joins g c = λ own told.
     joins-one c.args.wanted.now c.args.documents.now c.in_ok-gathered.gathered _ c.without_gap-from.result.0 c.in_ok-part.part own
-    (c.in_ok-gathered.ensures.gathers own) c.without_gap-from.ensures c.in_ok-part.ensures.part
+    (c.in_ok-gathered.ensures.gathers own told) c.without_gap-from.ensures c.in_ok-part.ensures.part
     (ap (λ parts. text_of_parts parts) (c.in_ok-push.ensures.items ∙ ap (λ parts. parts ++ c.in_ok-part.part ∷ []) c.new-parts.ensures.items)
     ∙ append-nil c.in_ok-part.part) refl refl

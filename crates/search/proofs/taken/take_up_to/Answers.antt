@@ -31,6 +31,7 @@ returns-clause-taken g c =
                   named = found.named;
                   are = shared-others items first.others ∙ first.whole ∙ candidates_under state pattern formula prepared.filter found.fronts;
                 };
+            same = found.are.same;
           };
       all_or_most = λ fewer. ap (λ ds. map shared_of ds) (first.all_or_most (omega (arith, fewer, length-map items document_of)));
     }

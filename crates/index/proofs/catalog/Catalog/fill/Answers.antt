@@ -3,5 +3,4 @@ use Rattle.index.proofs.catalog.Catalog.fill.Goals as goal
 
 pub invariant_of-self : goal.invariant_of-self
 invariant_of-self g c =
-    IsIndex-room c.self.inside.version c.self.inside.numbers c.self.inside.store c.fill.new.self c.self.invariant c.fill.ensures.documents
-    (c.fill.ensures.store c.self.inside.version c.self.invariant.kept)
+    IsIndex-room c.self.invariant c.fill.new.self c.fill.ensures.documents (c.fill.ensures.store c.self.inside.version c.self.invariant.kept)

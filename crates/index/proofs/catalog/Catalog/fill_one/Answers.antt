@@ -6,5 +6,4 @@ fill_one-requires c = (c.self.inside.version, c.self.invariant.kept)
 
 pub invariant_of-self : goal.invariant_of-self
 invariant_of-self c =
-    IsIndex-room c.self.inside.version c.self.inside.numbers c.self.inside.store c.fill_one.new.self c.self.invariant c.fill_one.ensures.documents
-    (c.fill_one.ensures.store c.self.inside.version c.self.invariant.kept)
+    IsIndex-room c.self.invariant c.fill_one.new.self c.fill_one.ensures.documents (c.fill_one.ensures.store c.self.inside.version c.self.invariant.kept)

@@ -6,5 +6,4 @@ fill_some-requires c = (c.self.inside.version, c.self.invariant.kept)
 
 pub invariant_of-self : goal.invariant_of-self
 invariant_of-self c =
-    IsIndex-room c.self.inside.version c.self.inside.numbers c.self.inside.store c.fill_some.new.self c.self.invariant c.fill_some.ensures.documents
-    (c.fill_some.ensures.store c.self.inside.version c.self.invariant.kept)
+    IsIndex-room c.self.invariant c.fill_some.new.self c.fill_some.ensures.documents (c.fill_some.ensures.store c.self.inside.version c.self.invariant.kept)

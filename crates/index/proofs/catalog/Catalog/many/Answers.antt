@@ -1,8 +1,9 @@
 use Rattle.std.proofs.Common.{◌≡◌, ◌+◌, ◌-◌, length, sym, ◌∙◌, ap, subst, arith}
 use Rattle.std.proofs.lemmas.List.{length-map, map-append}
-use Rattle.index.specs.Private.Numbered.{number_of, document_of, documents_shared, IsState}
-use Rattle.index.proofs.StoredLemmas.{Numbered-rise}
-use Rattle.index.proofs.OrderLemmas.{Named-pairs, some_by_name}
+use Rattle.index.specs.Private.Numbered.{document_of, documents_shared, IsState}
+use Rattle.std.specs.Prelude.{filter}
+use Rattle.index.proofs.NamedLemmas.{state_of_index}
+use Rattle.index.proofs.OrderLemmas.{some_in_order}
 use Rattle.index.proofs.PrefixLemmas.{AreUnderFirst, apart_texts, part_of, place_of, under-all, under-full, under-more, under-none}
 use Rattle.index.proofs.catalog.Catalog.many.Goals as goal
 use Rattle.index.proofs.catalog.Catalog.many.Goals.{then-len-most+in_ok-part+in_ok-shared, else-len-most}
@@ -22,7 +23,7 @@ loop-prefix-preserved g c =
     let text = c.prefix-item.result.items in
     let apart = apart_texts items c.args.prefixes.now c.texts-prefix-items.ensures.texts c.texts-prefix-items.ensures.apart in
     let place = place_of items at c.prefix-item.result c.loop-prefix-test.true c.prefix-item.is in
-    let is = subst IsState c.self.view_is c.self.invariant.is_state in
+    let is = subst IsState c.self.view_is (state_of_index c.self.invariant) in
     let count : length (documents_shared old) ≡ c.len.result =
     length-map old document_of ∙ sym (c.len.ensures ∙ c.loop-prefix.shared.ok.0) in
     elim c.if-len-most.branch [
@@ -38,8 +39,7 @@ loop-prefix-preserved g c =
       | else-len-most w ↦
           subst (λ v. AreUnderFirst c.args.most ds members items (at + 1) (documents_shared v.items)) (sym w.shared-is)
           (under-full c.args.most ds members items at text apart place.0 place.1 (documents_shared old) (let full = w.if-len-most.false in omega arith)
-          (some_by_name ds (Numbered-rise ds is.rise) (Named-pairs ds is.names) c.self.inside.numbers
-          (λ name. c.self.invariant.number name ∙ ap (λ s. number_of name s.documents) c.self.view_is) c.iter-in_order.ensures.ordered)
+          (λ p. (filter p ds, some_in_order ds is.rise p))
           c.loop-prefix.invariant)
     ]
 

@@ -1,16 +1,14 @@
-use Rattle.std.proofs.Common.{ap, sym, subst, arith}
-use Rattle.index.specs.Private.Numbered.{number_of, state, IsState}
-use Rattle.index.proofs.IndexLemmas.{IsState-none}
+use Rattle.std.proofs.Common.{ap, map}
+use Rattle.index.specs.Private.Numbered.{state}
+use Rattle.index.specs.Private.Store.{stored}
+use Rattle.index.proofs.NamedLemmas.{shown}
+use Rattle.index.proofs.IndexLemmas.{IsIndex-none}
 use Rattle.index.proofs.catalog.Catalog.new.Goals as goal
 
 pub invariant_of-result : goal.invariant_of-result
-unfolding number_of
-invariant_of-result c = record {
-  kept = c.new-2.ensures.store;
-  is_state = subst (λ ds. IsState (state 0 ds)) (sym c.new-2.ensures.documents) IsState-none;
-  number = λ name. rw c.new.ensures.empty (ap (number_of name) (sym c.new-2.ensures.documents));
-  few = omega arith;
-}
+invariant_of-result c =
+    IsIndex-none c.new.result c.new-2.result c.new-3.result c.new.ensures.empty c.new.ensures.ordered c.new-2.ensures.empty c.new-3.ensures.documents
+    c.new-3.ensures.store
 
 pub returns : goal.returns
-returns c = ap (state 0) c.new-2.ensures.documents
+returns c = ap (λ es. state 0 (map (shown (stored c.new-3.result)) es)) c.new.ensures.empty

@@ -1,60 +1,91 @@
-use Rattle.std.proofs.Common.{◌≡◌, ◌+◌, ◌<◌, ◌^◌, ◌++◌, ◌∷◌, [], None, ◌∙◌, ap, arith, subst}
+use Rattle.std.proofs.Common.{◌+◌, ◌<◌, ◌^◌, sym, ◌∙◌, ap, arith, subst}
+use Rattle.std.specs.FinMap.{insert}
 use Rattle.index.specs.declared.command.Command.TheVariants.{Put}
-use Rattle.index.specs.Text.{IsName}
-use Rattle.index.specs.Private.Numbered.{document, number_of}
-use Rattle.index.specs.Private.Numbered.{state, applied}
+use Rattle.index.specs.State.{body_bytes, state, applied}
+use Rattle.index.specs.Private.Numbered.{number_of}
+use Rattle.index.specs.Private.Contents.{IsLeft, AreContents, named}
+use Rattle.index.specs.Private.Plain.{plain_documents, plain_state}
 use Rattle.index.specs.Private.Store.{stored}
-use Rattle.index.proofs.IndexLemmas.{IsIndex-room, IsIndex-unchanged, IsIndex-new, new_is_applied, room_for_bytes}
+use Rattle.index.proofs.ApplyLemmas.{AreContents-new}
+use Rattle.index.proofs.NamedLemmas.{number-named}
+use Rattle.index.proofs.IndexLemmas.{IsIndex-room, IsIndex-unchanged, IsIndex-put, room_for_bytes}
+use Rattle.index.proofs.NewLemmas.{no_new_number, new_names, new_bodies, new_body, new_groups, new_left}
 use Rattle.index.proofs.catalog.Catalog.put_new.Goals as goal
+
+pub put_content-requires-clause-store : goal.put_content-requires-clause-store
+put_content-requires-clause-store c = (c.self.inside.version, c.self.invariant.kept, omega arith)
+
+pub put_content-requires-clause-bytes : goal.put_content-requires-clause-bytes
+put_content-requires-clause-bytes c =
+    room_for_bytes c.self.inside.version (stored c.self.inside.store) c.in_ok-held.held c.self.invariant.contents c.trigrams-trigrams.ensures.body
+    c.self.invariant.few
 
 pub invariant_of-self : goal.invariant_of-self
 invariant_of-self c =
-    let version = c.self.inside.version in
-    let kept =
-    IsIndex-room version c.self.inside.numbers c.self.inside.store c.enter.new.store c.self.invariant c.enter.ensures.documents
-    (c.enter.ensures.store version c.self.invariant.kept) in
-    IsIndex-unchanged version c.self.inside.numbers c.enter.new.numbers c.enter.new.store kept c.in_err-own.ensures.err
+    let err = c.in_err-put_content.ensures in
+    IsIndex-unchanged (IsIndex-room c.self.invariant c.put_content.new.store err.kept (err.kept_store c.self.inside.version c.self.invariant.kept))
+    c.put_content.new.numbers err.err
 
-pub put_in-requires-clause-store : goal.put_in-requires-clause-store
-put_in-requires-clause-store c = (c.self.inside.version, c.enter.ensures.store c.self.inside.version c.self.invariant.kept, omega arith)
+pub leave-requires-clause-store : goal.leave-requires-clause-store
+leave-requires-clause-store c = (c.self.inside.version + 1, c.in_ok-put_content.ensures.store)
 
-pub put_in-requires-clause-room : goal.put_in-requires-clause-room
-put_in-requires-clause-room c = c.in_ok-own.ensures.room c.in_ok-held.held c.trigrams.ensures.trigrams
+pub leave-requires-clause-name : goal.leave-requires-clause-name
+leave-requires-clause-name c =
+    let name = c.args.name.now in
+    new_left c.self.invariant name c.in_ok-held.held (stored c.put_content.new.store) c.in_ok-put_content.ensures.documents c.args.old
+    (c.requires.old ∙ sym (ap (λ s. number_of name s.documents) c.self.view_is) ∙ number-named c.self.inside.numbers (stored c.self.inside.store) name)
 
-pub put_in-requires-clause-bytes : goal.put_in-requires-clause-bytes
-put_in-requires-clause-bytes c =
-    let version = c.self.inside.version in
-    let kept =
-    IsIndex-room version c.self.inside.numbers c.self.inside.store c.enter.new.store c.self.invariant c.enter.ensures.documents
-    (c.enter.ensures.store version c.self.invariant.kept) in
-    room_for_bytes version (stored c.enter.new.store) c.in_ok-held.held kept.is_state c.trigrams.ensures.body c.self.invariant.few
+pub leave-requires-clause-groups : goal.leave-requires-clause-groups
+leave-requires-clause-groups c =
+    new_groups c.self.invariant c.args.name.now c.in_ok-held.held (stored c.put_content.new.store) c.in_ok-put_content.ensures.documents
 
 pub invariant_of-self-2 : goal.invariant_of-self-2
 invariant_of-self-2 c =
     let version = c.self.inside.version in
-    let before = c.enter.new.store in
     let name = c.args.name.now in
     let held = c.in_ok-held.held in
+    let number = version + 1 in
+    let is = c.self.invariant in
+    let store = c.self.inside.store in
+    let left =
+    subst (λ o. IsLeft o name (stored c.put_content.new.store) c.self.inside.groups (stored c.leave.new.store) c.leave.new.groups) (c.requires.old ∙ sym (ap (λ s. number_of name s.documents) c.self.view_is) ∙ number-named c.self.inside.numbers (stored store) name)
+    c.leave.ensures.left in
     let few : version + 1 < 2 ^ 32 = omega (arith, c.requires.few, ap (λ s. s.version) c.self.view_is) in
-    let kept =
-    IsIndex-room version c.self.inside.numbers c.self.inside.store before c.self.invariant c.enter.ensures.documents
-    (c.enter.ensures.store version c.self.invariant.kept) in
-    let none : number_of name (stored before) ≡ None =
-    ap (number_of name) c.enter.ensures.documents ∙ (ap (λ s. number_of name s.documents) c.self.view_is ∙ c.requires.new) in
-    IsIndex-new version c.self.inside.numbers c.enter.new.numbers before c.put_in.new.self name held kept none
-    (subst IsName c.in_ok-own.ensures.name.0 c.in_ok-own.ensures.name.1) c.trigrams.ensures.body few c.in_ok-own.ensures.numbers
-    (c.put_in.ensures.documents ∙ ap (λ n. stored before ++ document (version + 1) n held ∷ []) c.in_ok-own.ensures.name.0) c.put_in.ensures.store
+    let new = c.in_ok-put_content.ensures in
+    let both =
+    IsIndex-put is name held number c.put_content.new.numbers (stored c.put_content.new.store) c.self.inside.groups c.leave.new.groups c.leave.new.store
+    c.bytes_with-held_bytes.result (no_new_number is name) new.numbers new.ordered new.len new.name
+    (new_names is name held (stored c.put_content.new.store) new.documents) (new_bodies is name held (stored c.put_content.new.store) new.documents)
+    (new_body is name held (stored c.put_content.new.store) new.documents)
+    (subst (AreContents number) (sym new.documents) (AreContents-new version (stored store) name held c.trigrams-trigrams.ensures.body is.contents))
+    left (c.leave.ensures.store number new.store) few
+    (c.bytes_with-held_bytes.ensures
+    ∙ sym (ap (λ s. body_bytes (insert (plain_documents s.documents) name c.args.held.now)) c.self.view_is)
+    ∙ ap (λ b. body_bytes (insert (plain_documents (named c.self.inside.numbers (stored store))) name b)) (sym c.in_ok-held.ensures)) in
+    both.0
 
 pub returns-clause-ok : goal.returns-clause-ok
 returns-clause-ok c =
     let version = c.self.inside.version in
-    let documents = stored c.self.inside.store in
     let name = c.args.name.now in
-    let none : number_of name documents ≡ None =
-    ap (λ s. number_of name s.documents) c.self.view_is ∙ c.requires.new in
-    ap (state (version + 1))
-    (c.put_in.ensures.documents
-    ∙ (ap (λ ds. ds ++ document (version + 1) c.in_ok-own.own c.in_ok-held.held ∷ []) c.enter.ensures.documents
-    ∙ (ap (λ n. documents ++ document (version + 1) n c.in_ok-held.held ∷ []) c.in_ok-own.ensures.name.0
-    ∙ ap (λ b. documents ++ document (version + 1) name b ∷ []) c.in_ok-held.ensures)))
-    ∙ (new_is_applied (state version documents) name c.args.held.now none ∙ ap (applied (Put name c.args.held.now)) c.self.view_is)
+    let held = c.in_ok-held.held in
+    let number = version + 1 in
+    let is = c.self.invariant in
+    let store = c.self.inside.store in
+    let left =
+    subst (λ o. IsLeft o name (stored c.put_content.new.store) c.self.inside.groups (stored c.leave.new.store) c.leave.new.groups) (c.requires.old ∙ sym (ap (λ s. number_of name s.documents) c.self.view_is) ∙ number-named c.self.inside.numbers (stored store) name)
+    c.leave.ensures.left in
+    let few : version + 1 < 2 ^ 32 = omega (arith, c.requires.few, ap (λ s. s.version) c.self.view_is) in
+    let new = c.in_ok-put_content.ensures in
+    let both =
+    IsIndex-put is name held number c.put_content.new.numbers (stored c.put_content.new.store) c.self.inside.groups c.leave.new.groups c.leave.new.store
+    c.bytes_with-held_bytes.result (no_new_number is name) new.numbers new.ordered new.len new.name
+    (new_names is name held (stored c.put_content.new.store) new.documents) (new_bodies is name held (stored c.put_content.new.store) new.documents)
+    (new_body is name held (stored c.put_content.new.store) new.documents)
+    (subst (AreContents number) (sym new.documents) (AreContents-new version (stored store) name held c.trigrams-trigrams.ensures.body is.contents))
+    left (c.leave.ensures.store number new.store) few
+    (c.bytes_with-held_bytes.ensures
+    ∙ sym (ap (λ s. body_bytes (insert (plain_documents s.documents) name c.args.held.now)) c.self.view_is)
+    ∙ ap (λ b. body_bytes (insert (plain_documents (named c.self.inside.numbers (stored store))) name b)) (sym c.in_ok-held.ensures)) in
+    ap (state (version + 1)) (both.1 ∙ ap (λ b. insert (plain_documents (named c.self.inside.numbers (stored store))) name b) c.in_ok-held.ensures)
+    ∙ ap (λ s. applied (Put name c.args.held.now) (plain_state s)) c.self.view_is

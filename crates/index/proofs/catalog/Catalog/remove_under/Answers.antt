@@ -1,7 +1,9 @@
 use Rattle.std.proofs.Common.{◌+◌, ◌∙◌, sym, ap}
-use Rattle.index.specs.Private.Numbered.{without_under}
-use Rattle.index.specs.Private.Numbered.{State, state}
-use Rattle.index.proofs.RemovedLemmas.{still_without, all_stay}
+use Rattle.index.specs.declared.command.Command.TheVariants.{RemoveUnder}
+use Rattle.index.specs.Documents.{documents_after}
+use Rattle.index.specs.State.{state}
+use Rattle.index.specs.Private.Plain.{plain_documents}
+use Rattle.index.proofs.RemovedLemmas.{still_without, all_stay, no_body_under}
 use Rattle.index.proofs.catalog.Catalog.remove_under.Goals as goal
 
 pub loop-preserved : goal.loop-preserved
@@ -11,15 +13,15 @@ loop-preserved c =
     record {
       version = ap (λ s. s.version) taken.left ∙ c.loop.invariant.version;
       same =
-          ap (λ s. without_under text s.documents) taken.left
-          ∙ (still_without text taken.name c.loop.self.documents taken.begins ∙ c.loop.invariant.same);
+          ap (λ s. documents_after (RemoveUnder text) s.documents) taken.left
+          ∙ (still_without text taken.name (plain_documents c.loop.self.documents) taken.begins ∙ c.loop.invariant.same);
     }
 
 pub returns-clause-ok : goal.returns-clause-ok
 returns-clause-ok c =
     let text = c.args.prefix.now in
     let none = c.take_one_under.ensures.none c.loop-test.false in
-    let later : State → State = λ s. state (s.version + 1) s.documents in
-    ap later (c.self.view_is ∙ none.0)
-    ∙ (ap (λ v. state (v + 1) c.loop.self.documents) c.loop.invariant.version
-    ∙ ap (state (c.args.self.now.version + 1)) (sym (all_stay text c.loop.self.documents none.1) ∙ c.loop.invariant.same))
+    ap (λ s. state (s.version + 1) (plain_documents s.documents)) (c.self.view_is ∙ none.0)
+    ∙ (ap (λ v. state (v + 1) (plain_documents c.loop.self.documents)) c.loop.invariant.version
+    ∙ ap (state (c.args.self.now.version + 1))
+    (sym (all_stay text (plain_documents c.loop.self.documents) (no_body_under text c.loop.self.documents none.1)) ∙ c.loop.invariant.same))

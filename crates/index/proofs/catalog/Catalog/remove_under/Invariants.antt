@@ -1,12 +1,16 @@
-use Rattle.std.proofs.Common.{◌≡◌, length}
-use Rattle.index.specs.Private.Numbered.{without_under}
+use Rattle.std.proofs.Common.{◌≡◌}
+use Rattle.std.specs.FinMap.{len}
+use Rattle.index.specs.declared.command.Command.TheVariants.{RemoveUnder}
+use Rattle.index.specs.Documents.{documents_after}
+use Rattle.index.specs.Private.Plain.{plain_documents}
 use Rattle.index.proofs.catalog.Catalog.remove_under.Given as goal
 
 abbrev pub invariant-loop : goal.invariant-loop
 invariant-loop l = record {
   version : l.self.version ≡ l.initial.self.version;
-  same : without_under l.prefix l.self.documents ≡ without_under l.prefix l.initial.self.documents;
+  same : documents_after (RemoveUnder l.prefix) (plain_documents l.self.documents)
+      ≡ documents_after (RemoveUnder l.prefix) (plain_documents l.initial.self.documents);
 }
 
 abbrev pub decreases-loop : goal.decreases-loop
-decreases-loop l = length l.self.documents
+decreases-loop l = len (plain_documents l.self.documents)

@@ -1,88 +1,67 @@
-use Rattle.std.proofs.Common.{◌≡◌, ◌+◌, ◌<◌, ◌^◌, Some, ◌∙◌, ap, arith, map}
+use Rattle.std.proofs.Common.{◌+◌, ◌<◌, ◌^◌, sym, ◌∙◌, ap, arith}
+use Rattle.std.specs.FinMap.{insert}
 use Rattle.index.specs.declared.command.Command.TheVariants.{Put}
+use Rattle.index.specs.State.{body_bytes, state, applied}
 use Rattle.index.specs.Private.Numbered.{number_of}
-use Rattle.index.specs.Private.Numbered.{state, applied}
-use Rattle.index.specs.Private.Slots.{with_body_at}
+use Rattle.index.specs.Private.Contents.{named}
+use Rattle.index.specs.Private.Plain.{plain_documents, plain_state}
 use Rattle.index.specs.Private.Store.{stored}
-use Rattle.index.proofs.ApplyLemmas.{document_at-named}
-use Rattle.index.proofs.IndexLemmas.{numbered, IsIndex-room, IsIndex-replace, replaced_is_applied, room_for_bytes}
+use Rattle.index.proofs.NamedLemmas.{number-named, content_of_number}
+use Rattle.index.proofs.IndexLemmas.{IsIndex-room, IsIndex-replace, room_for_bytes}
 use Rattle.index.proofs.catalog.Catalog.replace.Goals as goal
 
-pub prepare-requires-clause-there : goal.prepare-requires-clause-there
-prepare-requires-clause-there c =
-    let documents = stored c.self.inside.store in
-    document_at-named documents (numbered c.self.inside.version documents c.self.invariant.is_state) c.args.name.now c.args.number
-    (ap (λ s. number_of c.args.name.now s.documents) c.self.view_is ∙ c.requires.there)
+pub bytes_with-held_bytes-requires : goal.bytes_with-held_bytes-requires
+bytes_with-held_bytes-requires c = sym c.requires.own.here
 
-pub invariant_of-self-in_err-change : goal.invariant_of-self-in_err-change
-invariant_of-self-in_err-change c =
-    IsIndex-room c.self.inside.version c.self.inside.numbers c.self.inside.store c.prepare.new.self c.self.invariant c.prepare.ensures.documents
-    (c.prepare.ensures.store c.self.inside.version c.self.invariant.kept)
-
-pub replace-requires-clause-store : goal.replace-requires-clause-store
-replace-requires-clause-store c = (c.self.inside.version, c.prepare.ensures.store c.self.inside.version c.self.invariant.kept)
-
-pub replace-requires-clause-room : goal.replace-requires-clause-room
-replace-requires-clause-room c = c.in_ok-change.ensures.ok c.in_ok-held.held c.trigrams.ensures.trigrams
-
-pub replace-requires-clause-bytes : goal.replace-requires-clause-bytes
-replace-requires-clause-bytes c =
-    let version = c.self.inside.version in
-    let kept =
-    IsIndex-room version c.self.inside.numbers c.self.inside.store c.prepare.new.self c.self.invariant c.prepare.ensures.documents
-    (c.prepare.ensures.store version c.self.invariant.kept) in
-    room_for_bytes version (stored c.prepare.new.self) c.in_ok-held.held kept.is_state c.trigrams.ensures.body c.self.invariant.few
-
-pub invariant_of-self-2 : goal.invariant_of-self-2
-invariant_of-self-2 c =
-    let version = c.self.inside.version in
-    let few : version + 1 < 2 ^ 32 = omega (arith, c.requires.few, ap (λ s. s.version) c.self.view_is) in
-    let store = c.prepare.ensures.store version c.self.invariant.kept in
-    let kept =
-    IsIndex-room version c.self.inside.numbers c.self.inside.store c.prepare.new.self c.self.invariant c.prepare.ensures.documents store in
-    IsIndex-replace version c.self.inside.numbers c.prepare.new.self c.replace.new.self c.args.number c.in_ok-held.held kept
-    c.trigrams.ensures.body few c.replace.ensures.documents (c.replace.ensures.store version store)
-
-pub returns-clause-ok : goal.returns-clause-ok
-returns-clause-ok c =
-    let version = c.self.inside.version in
-    let documents = stored c.self.inside.store in
+pub replace_body-requires-clause-there : goal.replace_body-requires-clause-there
+replace_body-requires-clause-there c =
     let name = c.args.name.now in
-    let found : number_of name documents ≡ Some c.args.number =
-    ap (λ s. number_of name s.documents) c.self.view_is ∙ c.requires.there in
-    ap (state (version + 1))
-    (c.replace.ensures.documents
-    ∙ (ap (map (with_body_at c.args.number c.in_ok-held.held)) c.prepare.ensures.documents
-    ∙ ap (λ b. map (with_body_at c.args.number b) documents) c.in_ok-held.ensures))
-    ∙ (replaced_is_applied (state version documents) c.self.invariant.is_state name c.args.held.now c.args.number found
-    ∙ ap (applied (Put name c.args.held.now)) c.self.view_is)
+    content_of_number c.self.invariant name c.args.number
+    (sym (number-named c.self.inside.numbers (stored c.self.inside.store) name) ∙ ap (λ s. number_of name s.documents) c.self.view_is ∙ c.requires.own.here)
 
-pub replace_later-requires-clause-there : goal.replace_later-requires-clause-there
-replace_later-requires-clause-there c =
-    let documents = stored c.self.inside.store in
-    document_at-named documents (numbered c.self.inside.version documents c.self.invariant.is_state) c.args.name.now c.args.number
-    (ap (λ s. number_of c.args.name.now s.documents) c.self.view_is ∙ c.requires.there)
-
-pub replace_later-requires-clause-bytes : goal.replace_later-requires-clause-bytes
-replace_later-requires-clause-bytes c =
-    room_for_bytes c.self.inside.version (stored c.self.inside.store) c.in_ok-held.held c.self.invariant.is_state c.trigrams-trigrams.ensures.body
+pub replace_body-requires-clause-bytes : goal.replace_body-requires-clause-bytes
+replace_body-requires-clause-bytes c =
+    room_for_bytes c.self.inside.version (stored c.self.inside.store) c.in_ok-held.held c.self.invariant.contents c.trigrams-trigrams.ensures.body
     c.self.invariant.few
 
 pub invariant_of-self : goal.invariant_of-self
 invariant_of-self c =
-    let version = c.self.inside.version in
-    let few : version + 1 < 2 ^ 32 = omega (arith, c.requires.few, ap (λ s. s.version) c.self.view_is) in
-    IsIndex-replace version c.self.inside.numbers c.self.inside.store c.replace_later.new.self c.args.number c.in_ok-held.held c.self.invariant
-    c.trigrams-trigrams.ensures.body few c.replace_later.ensures.documents (c.replace_later.ensures.store version c.self.invariant.kept)
+    IsIndex-room c.self.invariant c.replace_body.new.self c.in_err-replace_body.ensures.err
+    (c.replace_body.ensures.store c.self.inside.version c.self.invariant.kept)
 
-pub returns-then-has_waiting-clause-ok : goal.returns-then-has_waiting-clause-ok
-returns-then-has_waiting-clause-ok c =
+pub invariant_of-self-2 : goal.invariant_of-self-2
+invariant_of-self-2 c =
     let version = c.self.inside.version in
-    let documents = stored c.self.inside.store in
     let name = c.args.name.now in
-    let found : number_of name documents ≡ Some c.args.number =
-    ap (λ s. number_of name s.documents) c.self.view_is ∙ c.requires.there in
-    ap (state (version + 1))
-    (c.replace_later.ensures.documents ∙ ap (λ b. map (with_body_at c.args.number b) documents) c.in_ok-held.ensures)
-    ∙ (replaced_is_applied (state version documents) c.self.invariant.is_state name c.args.held.now c.args.number found
-    ∙ ap (applied (Put name c.args.held.now)) c.self.view_is)
+    let held = c.in_ok-held.held in
+    let store = c.self.inside.store in
+    let numbers = c.self.inside.numbers in
+    let few : version + 1 < 2 ^ 32 = omega (arith, c.requires.few, ap (λ s. s.version) c.self.view_is) in
+    let both =
+    IsIndex-replace c.self.invariant name held c.args.number c.replace_body.new.self c.bytes_with-held_bytes.result
+    (sym (number-named numbers (stored store) name) ∙ ap (λ s. number_of name s.documents) c.self.view_is ∙ c.requires.own.here)
+    (λ q also. c.requires.own.only q (sym (ap (λ s. number_of q s.documents) c.self.view_is) ∙ number-named numbers (stored store) q ∙ also))
+    c.trigrams-trigrams.ensures.body c.in_ok-replace_body.ensures.ok (c.replace_body.ensures.store version c.self.invariant.kept) few
+    (c.bytes_with-held_bytes.ensures
+    ∙ sym (ap (λ s. body_bytes (insert (plain_documents s.documents) name c.args.held.now)) c.self.view_is)
+    ∙ ap (λ b. body_bytes (insert (plain_documents (named numbers (stored store))) name b)) (sym c.in_ok-held.ensures)) in
+    both.0
+
+pub returns-clause-ok : goal.returns-clause-ok
+returns-clause-ok c =
+    let version = c.self.inside.version in
+    let name = c.args.name.now in
+    let held = c.in_ok-held.held in
+    let store = c.self.inside.store in
+    let numbers = c.self.inside.numbers in
+    let few : version + 1 < 2 ^ 32 = omega (arith, c.requires.few, ap (λ s. s.version) c.self.view_is) in
+    let both =
+    IsIndex-replace c.self.invariant name held c.args.number c.replace_body.new.self c.bytes_with-held_bytes.result
+    (sym (number-named numbers (stored store) name) ∙ ap (λ s. number_of name s.documents) c.self.view_is ∙ c.requires.own.here)
+    (λ q also. c.requires.own.only q (sym (ap (λ s. number_of q s.documents) c.self.view_is) ∙ number-named numbers (stored store) q ∙ also))
+    c.trigrams-trigrams.ensures.body c.in_ok-replace_body.ensures.ok (c.replace_body.ensures.store version c.self.invariant.kept) few
+    (c.bytes_with-held_bytes.ensures
+    ∙ sym (ap (λ s. body_bytes (insert (plain_documents s.documents) name c.args.held.now)) c.self.view_is)
+    ∙ ap (λ b. body_bytes (insert (plain_documents (named numbers (stored store))) name b)) (sym c.in_ok-held.ensures)) in
+    ap (state (version + 1)) (both.1 ∙ ap (λ b. insert (plain_documents (named numbers (stored store))) name b) c.in_ok-held.ensures)
+    ∙ ap (λ s. applied (Put name c.args.held.now) (plain_state s)) c.self.view_is

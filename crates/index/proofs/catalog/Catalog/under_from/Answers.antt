@@ -3,25 +3,27 @@ use Rattle.std.specs.Prelude.{filter}
 use Rattle.std.proofs.lemmas.List.{length-map}
 use Rattle.posting.specs.ListValue.{has}
 use Rattle.prefixes.specs.Under.{begins_with}
-use Rattle.index.specs.Private.Numbered.{number_of, is_under}
-use Rattle.index.specs.Private.Numbered.{IsState}
-use Rattle.index.specs.Private.Numbered.{document_of, documents_shared}
-use Rattle.index.specs.Private.Chosen.{IsFirstUnder, documents_numbered}
-use Rattle.index.proofs.StoredLemmas.{Numbered-rise}
+use Rattle.index.specs.Private.Numbered.{number_of, is_under, document_of, documents_shared, IsInNameOrder}
+use Rattle.index.specs.Private.Chosen.{IsFirstUnder, documents_named}
 use Rattle.index.proofs.UnderLemmas.{Behind-first, picked}
-use Rattle.index.proofs.OrderLemmas.{Named-pairs, many_taken}
-use Rattle.index.proofs.ChosenLemmas.{taken-none, taken-keep, taken-skip, taken-stop, taken-end, all-first, most-first}
+use Rattle.index.proofs.NamedLemmas.{many_taken, found_between}
+use Rattle.index.proofs.ChosenLemmas.{taken-none, taken-keep, taken-skip, taken-stop, taken-end, found_next, all-first, most-first}
 use Rattle.index.proofs.catalog.Catalog.under_from.Goals as goal
 
 pub loop-name-init : goal.loop-name-init
 loop-name-init g c =
     let text = c.args.prefix.now in
     let all = c.into_iter-name-iterator.result in
-    let is = subst (IsFirstUnder text) (sym c.as_ref.ensures) c.requires.first in
+    let first = subst (IsFirstUnder text) (sym c.as_ref.ensures) c.requires.first in
+    let between = c.into_iter-name-iterator.ensures.into_iter_gives ∙ c.range-name-items.ensures.between tt in
     taken-none c.args.self.now.documents (has c.args.among.now) text all (documents_shared c.args.room.items)
-    (ap documents_shared c.requires.empty)
-    (Behind-first text _ is c.self.inside.numbers.entries all c.range-name-items.ensures.ordered
-    (c.into_iter-name-iterator.ensures.into_iter_gives ∙ c.range-name-items.ensures.between tt))
+    (ap documents_shared c.requires.empty) (Behind-first text _ first c.self.inside.numbers.entries all c.range-name-items.ensures.ordered between)
+    (λ e there. sym (ap (λ s. number_of e.0 s.documents) c.self.view_is) ∙ found_between c.self.invariant _ all between e there)
+
+pub add-requires : goal.add-requires
+add-requires g c =
+    found_next c.args.self.now.documents (has c.args.among.now) c.args.prefix.now c.into_iter-name-iterator.result (documents_shared c.loop-name.shared.items)
+    c.loop-name.name-iterator c.next.new.self c.in-Some.name.now c.in-Some.number.now c.in-Some.ensures.steps c.loop-name.invariant
 
 pub loop-name-preserved : goal.loop-name-preserved
 loop-name-preserved g c =
@@ -49,15 +51,15 @@ returns-then-not-starts_with-clause-documents g c =
     let text = c.args.prefix.now in
     let all = c.into_iter-name-iterator.result in
     let taken = documents_shared c.loop-name.shared.items in
-    let is = subst IsState c.self.view_is c.self.invariant.is_state in
     let first = subst (IsFirstUnder text) (sym c.as_ref.ensures) c.requires.first in
     let other : begins_with text c.in-Some.name.now ≡ false = ap (begins_with text) (sym c.as_bytes.ensures.bytes) ∙ sym c.if-not-starts_with.ensures.value in
+    let shown = ap (λ s. s.documents) c.self.view_is in
     all-first c.args.most (filter (λ d. test d.number && is_under text d) ds) taken
-    (many_taken ds (Numbered-rise ds is.rise) (Named-pairs ds is.names) test text c.self.inside.numbers
-    (λ name. c.self.invariant.number name ∙ ap (λ s. number_of name s.documents) c.self.view_is) c.range-name-items.ensures.ordered _ first all
-    (c.into_iter-name-iterator.ensures.into_iter_gives ∙ c.range-name-items.ensures.between tt) taken
+    (subst (λ xs. IsInNameOrder (filter (λ d. test d.number && is_under text d) xs) taken) shown
+    (many_taken c.self.invariant test text _ first all (c.into_iter-name-iterator.ensures.into_iter_gives ∙ c.range-name-items.ensures.between tt) taken
     (taken-stop ds test text all taken c.loop-name.name-iterator c.next.new.self c.in-Some.name.now c.in-Some.number.now c.in-Some.ensures.steps other
-    c.loop-name.invariant))
+    c.loop-name.invariant
+    ∙ sym (ap (λ xs. documents_named xs (picked test text all)) shown))))
 
 pub returns-then-len-most-clause-documents : goal.returns-then-len-most-clause-documents
 returns-then-len-most-clause-documents g c =
@@ -66,13 +68,13 @@ returns-then-len-most-clause-documents g c =
     let text = c.args.prefix.now in
     let all = c.into_iter-name-iterator.result in
     let taken = documents_shared c.loop-name.shared.items in
-    let is = subst IsState c.self.view_is c.self.invariant.is_state in
     let first = subst (IsFirstUnder text) (sym c.as_ref.ensures) c.requires.first in
-    let others = filter (is_under text) (documents_numbered ds (picked test text c.loop-name.name-iterator)) in
+    let others = documents_named ds (picked test text c.loop-name.name-iterator) in
+    let shown = ap (λ s. s.documents) c.self.view_is in
     most-first c.args.most (filter (λ d. test d.number && is_under text d) ds) taken others
-    (many_taken ds (Numbered-rise ds is.rise) (Named-pairs ds is.names) test text c.self.inside.numbers
-    (λ name. c.self.invariant.number name ∙ ap (λ s. number_of name s.documents) c.self.view_is) c.range-name-items.ensures.ordered _ first all
-    (c.into_iter-name-iterator.ensures.into_iter_gives ∙ c.range-name-items.ensures.between tt) (taken ++ others) c.loop-name.invariant.so_far)
+    (subst (λ xs. IsInNameOrder (filter (λ d. test d.number && is_under text d) xs) (taken ++ others)) shown
+    (many_taken c.self.invariant test text _ first all (c.into_iter-name-iterator.ensures.into_iter_gives ∙ c.range-name-items.ensures.between tt) (taken ++ others)
+    (c.loop-name.invariant.so_far ∙ sym (ap (λ xs. documents_named xs (picked test text all)) shown))))
     (omega (arith, c.if-len-most.true, c.len.ensures, c.loop-name.shared.ok, length-map c.loop-name.shared.items document_of))
 
 pub returns-clause-documents : goal.returns-clause-documents
@@ -82,10 +84,10 @@ returns-clause-documents g c =
     let text = c.args.prefix.now in
     let all = c.into_iter-name-iterator.result in
     let taken = documents_shared c.loop-name.shared.items in
-    let is = subst IsState c.self.view_is c.self.invariant.is_state in
     let first = subst (IsFirstUnder text) (sym c.as_ref.ensures) c.requires.first in
+    let shown = ap (λ s. s.documents) c.self.view_is in
     all-first c.args.most (filter (λ d. test d.number && is_under text d) ds) taken
-    (many_taken ds (Numbered-rise ds is.rise) (Named-pairs ds is.names) test text c.self.inside.numbers
-    (λ name. c.self.invariant.number name ∙ ap (λ s. number_of name s.documents) c.self.view_is) c.range-name-items.ensures.ordered _ first all
-    (c.into_iter-name-iterator.ensures.into_iter_gives ∙ c.range-name-items.ensures.between tt) taken
-    (taken-end ds test text all taken c.loop-name.name-iterator c.in-None.ensures.steps.0 c.loop-name.invariant))
+    (subst (λ xs. IsInNameOrder (filter (λ d. test d.number && is_under text d) xs) taken) shown
+    (many_taken c.self.invariant test text _ first all (c.into_iter-name-iterator.ensures.into_iter_gives ∙ c.range-name-items.ensures.between tt) taken
+    (taken-end ds test text all taken c.loop-name.name-iterator c.in-None.ensures.steps.0 c.loop-name.invariant
+    ∙ sym (ap (λ xs. documents_named xs (picked test text all)) shown))))

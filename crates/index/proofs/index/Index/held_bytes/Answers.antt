@@ -1,8 +1,6 @@
-use Rattle.std.proofs.Common.{sym, ◌∙◌, ap}
+use Rattle.std.proofs.Common.{◌∙◌, ap}
 use Rattle.index.specs.State.{body_bytes}
-use Rattle.index.proofs.PlainLemmas.{bytes-plain}
 use Rattle.index.proofs.index.Index.held_bytes.Goals as goal
 
 pub returns : goal.returns
-returns c =
-    c.held_bytes.ensures ∙ sym (bytes-plain c.self.inside.catalog c.version.ensures.state) ∙ ap (λ s. body_bytes s.documents) c.self.view_is
+returns c = c.held_bytes.ensures ∙ ap (λ s. body_bytes s.documents) c.self.view_is

@@ -3,22 +3,15 @@ use Rattle.index.specs.declared.command.Command.TheVariants.{RemoveUnder}
 use Rattle.index.specs.Documents.{has_under}
 use Rattle.index.specs.State.{IsTakenUnder, applied}
 use Rattle.index.specs.Private.Plain.{plain_state}
-use Rattle.index.proofs.PlainLemmas.{plain_applied, taken-plain, has_under-plain}
+use Rattle.index.proofs.PlainLemmas.{has_under-plain}
 use Rattle.index.proofs.index.Index.take_one_under.Goals as goal
 
 pub returns-clause-taken : goal.returns-clause-taken
 returns-clause-taken c = λ yes.
-    subst (λ s. IsTakenUnder c.args.prefix.now s (plain_state c.take_one_under-taken.new.self)) c.self.view_is
-    (taken-plain c.args.prefix.now c.self.inside.catalog c.take_one_under-taken.new.self c.version.ensures.state c.version-2.ensures.state
-    (c.take_one_under-taken.ensures.taken yes))
+    subst (λ s. IsTakenUnder c.args.prefix.now s (plain_state c.take_one_under-taken.new.self)) c.self.view_is (c.take_one_under-taken.ensures.taken yes)
 
 pub returns-clause-same : goal.returns-clause-same
-returns-clause-same c =
-    let command = RemoveUnder c.args.prefix.now in
-    sym (plain_applied command c.take_one_under-taken.new.self)
-    ∙ ap plain_state c.take_one_under-taken.ensures.same
-    ∙ plain_applied command c.self.inside.catalog
-    ∙ ap (applied command) c.self.view_is
+returns-clause-same c = c.take_one_under-taken.ensures.same ∙ ap (applied (RemoveUnder c.args.prefix.now)) c.self.view_is
 
 pub returns-clause-none : goal.returns-clause-none
 returns-clause-none c = λ no.

@@ -3,6 +3,10 @@ use Rattle.std.proofs.lemmas.Bool.{true≢false}
 use Rattle.index.specs.Shared.{documents_shared}
 use Rattle.search.specs.Front.{AreFronted}
 use Rattle.search.specs.Private.Gathered.{HaveOwnNames, Joins, shown_with}
+use Rattle.std.specs.Prelude.{All}
+use Rattle.search.specs.Private.Known.{AreTold, IsTold}
+use Rattle.search.specs.declared.known.Known.{Known}
+use Rattle.search.proofs.KnownLemmas.{none-told}
 use Rattle.prepare.specs.Request.{Request}
 use Rattle.search.specs.Scan.{candidates_of}
 use Rattle.search.specs.Shown.{IsShownOf}
@@ -22,10 +26,14 @@ returns-clause-shown g c = λ state request part.
     let of = part.taken in
     let order =
     subst (λ (r : Request). AreFronted state r.pattern (documents_shared (taken.candidates.items ++ part.others))) (sym of.prepared) of.candidates in
-    let joins = subst (λ ds. HaveOwnNames ds → Joins wanted wanted.limit ds joined) c.as_slice.ensures.value c.in_ok-joined.ensures.joins in
+    let told =
+    subst (λ (k : Known). All (IsTold k.entries.items) kept) (sym c.wanted_by-wanted.ensures.known)
+    (subst (λ es. All (IsTold es) kept) (sym c.none-none.ensures) (none-told kept)) in
+    let joins =
+    subst (λ ds. HaveOwnNames ds → AreTold wanted ds → Joins wanted wanted.limit ds joined) c.as_slice.ensures.value c.in_ok-joined.ensures.joins in
     subst (λ s. IsShownOf state request s) (sym c.in_ok-shown.ensures.shown)
     (subst (λ r. IsShownOf state r (shown_with taken.prepared.now.view taken.version taken.documents taken.count joined)) of.prepared
     (part-shown state taken.prepared.now taken.candidates.items part.others kept wanted joined of.is_state order c.in_ok-kept.ensures.kept
-    c.wanted_by-wanted.ensures.prepared c.wanted_by-wanted.ensures.limit c.wanted_by-wanted.ensures.view joins (was_true joined.more c.if-not-joined.false) taken.version
+    c.wanted_by-wanted.ensures.prepared c.wanted_by-wanted.ensures.limit c.wanted_by-wanted.ensures.view (λ own. joins own told) (was_true joined.more c.if-not-joined.false) taken.version
     taken.documents taken.count of.version of.documents
     (subst (λ (r : Request). taken.count ≡ length (candidates_of state r.pattern.line)) (sym of.prepared) of.count)))

@@ -1,0 +1,100 @@
+"""What revisions of a tree cost that are mostly the same files: python3 bench/contents.py FOLDER.
+
+A session with readers gets the folder's files under r0/, and then nine further revisions under r1/ to r9/, each with 50 files more that are
+changed. The first table has how long a revision takes from the first byte sent until a search finds its last change, and how much memory
+it takes once both copies of the index have it. The second one has searches over one revision, in a session of its own, and over all ten,
+without the text of their lines, and how many times as long these take.
+"""
+import random
+import statistics
+import sys
+import time
+
+import build
+import client
+import command
+import corpus
+
+CHANGED = 50
+REVISIONS = 10
+RUNS = 9
+READERS = "4"
+PATTERNS = [*corpus.PATTERNS, "return nil, err", "func [A-Z][a-z]+\\(", "unsafe\\.Pointer", "mheap_", "zzqqxxyy"]
+
+
+def changed(documents, names, number):
+    """The documents with some more changed ones, and the word that the last of these has."""
+    word = b"changed_%d" % number
+    return {**documents, **{name: documents[name] + b"// %s\n" % word for name in names}}, word
+
+
+def items_of(documents, number):
+    return b"".join(corpus.put(b"r%d/%s" % (number, name), body) for name, body in documents.items())
+
+
+def settled(session):
+    """The resident memory once both copies of the index have what is published."""
+    for _ in range(3):
+        session.ask(b"publish\nsearch zzqqxxyy\n")
+    return session.resident()
+
+
+def revisions(session, documents, rng):
+    """Feeds all revisions, and tells what each takes."""
+    _, seconds = session.ask(items_of(documents, 0) + b"publish\nsearch zzqqxxyy\n")
+    memory = settled(session)
+    command.row("the first", "%.0f" % (1000 * seconds), "%.1f" % (memory / 1e6))
+    names, now = sorted(documents), documents
+    times, more = [], []
+    for number in range(1, REVISIONS):
+        now, word = changed(now, rng.sample(names, CHANGED), number)
+        text, seconds = session.ask(items_of(now, number) + b"publish\nfind -c -- %s\n" % word)
+        if text.count(b"\n") != 1 + CHANGED:
+            sys.exit("%s: not the changed files: %r" % (build.called(), text[:200]))
+        after = settled(session)
+        times.append(1000 * seconds)
+        more.append((after - memory) / 1e6)
+        memory = after
+    command.row("each further one, by puts", "%.0f to %.0f" % (min(times), max(times)), "%.1f to %.1f" % (min(more), max(more)))
+
+
+class Counting(client.Session):
+    """A session that can be asked how many lines there are, without their text."""
+
+    def count(self, pattern):
+        """How many lines there are, and the seconds until that is known."""
+        self.searches += 1
+        start = time.perf_counter()
+        self.process.stdin.write(b"find -q -- %s\n" % pattern)
+        text = self.process.stdout.readline()
+        seconds = time.perf_counter() - start
+        if not text.startswith(b"search %d version " % self.searches):
+            sys.exit("%s: not the answer of search %d: %r" % (build.called(), self.searches, text))
+        return int(text.split()[5]), seconds
+
+
+def median_of(session, pattern):
+    """How many lines are found, and the median of some runs in milliseconds."""
+    lines, _ = session.count(pattern)
+    return lines, 1000 * statistics.median(session.count(pattern)[1] for _ in range(RUNS))
+
+
+def main():
+    (folder,) = command.words(__doc__)
+    build.need_program()
+    rng = random.Random(1)
+    documents = corpus.documents_of(folder)
+    print("\n%d files, %.1f MB" % (len(documents), sum(map(len, documents.values())) / 1e6))
+    alone, together = (Counting("--readers", READERS, "--max-commands", "1000000") for _ in range(2))
+    alone.ask(items_of(documents, 0) + b"publish\nsearch zzqqxxyy\n")
+    command.head(["revision", "until it is found, ms", "memory more, MB"])
+    revisions(together, documents, rng)
+    settled(alone)
+    command.head(["pattern", "lines in one, in ten", "one, ms", "ten, ms", "times"])
+    for pattern in PATTERNS:
+        (lines, one), (more, ten) = (median_of(session, pattern.encode()) for session in (alone, together))
+        command.row("`%s`" % pattern, "%d, %d" % (lines, more), "%.2f" % one, "%.2f" % ten, "%.2f" % (ten / one))
+
+
+if __name__ == "__main__":
+    main()
