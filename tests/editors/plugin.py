@@ -216,6 +216,25 @@ def a_killed_server_is_started_again(place):
         neovim.until(lambda: rows_of(neovim) == [f"{name}:1:a_kept_line"] and neovim.told() == "1 line", "the line once more")
 
 
+def a_server_is_killed_with_a_search(place):
+    """It has been asked, and cannot answer: the same is asked of the server that comes in its place."""
+    name = place.files()[1]
+    with place.neovim() as neovim:
+        neovim.command(f"edit {name}")
+        neovim.type("ggOa_kept_line<Esc>:Tgrep<CR>a_kept_line2")
+        neovim.until(lambda: neovim.told() == "0 lines", "nothing")
+        (lock,) = pathlib.Path(place.environment["XDG_RUNTIME_DIR"], "tgrep").glob("*.lock")
+        server = int(lock.read_text(encoding="ascii"))
+        os.kill(server, signal.SIGSTOP)
+        neovim.type("<BS>")
+        neovim.until(lambda: neovim.lua("""
+            local window = require("tgrep.window").current()
+            return window.asked.pattern == "a_kept_line" and window.client.waiting[window.searching.number] ~= nil"""), "a search that waits")
+        os.kill(server, signal.SIGKILL)
+        neovim.until(lambda: neovim.told() == "1 line", "the line with a new server")
+        wants(rows_of(neovim), [f"{name}:1:a_kept_line"], "what is found")
+
+
 def a_large_buffer(place):
     """One of five megabytes, unsaved: it is found, or named as one that cannot be searched. Others are found in any case."""
     with place.neovim() as neovim:
@@ -429,7 +448,8 @@ def neovim_doc(place):
 
 TESTS = [
     lists_what_a_pattern_finds, shows_what_is_found_as_one_types, a_window_becomes_a_list, unsaved_buffers_are_searched, what_is_found_follows,
-    a_killed_server_is_started_again, a_large_buffer, a_thousand_edits, searches_are_cancelled, replaces_what_is_shown,
+    a_killed_server_is_started_again, a_server_is_killed_with_a_search, a_large_buffer, a_thousand_edits, searches_are_cancelled,
+    replaces_what_is_shown,
     a_file_that_another_editor_has_open_is_skipped, without_watchman_changes_are_found_too,
     a_command_that_is_missing_is_named, has_help_and_health, is_found_as_a_package,
 ]  # fmt: skip

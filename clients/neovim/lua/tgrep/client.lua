@@ -245,7 +245,8 @@ function Client:take(message)
   end
 end
 
--- The connection is gone. Who waits is told, and the next request makes another one.
+-- The connection is gone. Who waits is told, and the next request makes another one. Who is dropped may ask at once for what was lost: it
+-- waits for the other connection then, and is not told of the end of this one.
 function Client:lose(reason)
   local pipe = self.pipe
   self.pipe, self.state = nil, "none"
@@ -253,15 +254,15 @@ function Client:lose(reason)
     pipe:close()
   end
   self.overlays = {}
-  self:drop({ kind = "lost", message = reason })
   self:tell("lost", { kind = "lost", message = reason })
+  self:drop({ kind = "lost", message = reason })
 end
 
 -- There is no connection, and no request can be made.
 function Client:fail(reason)
   self.state, self.queue = "none", {}
-  self:drop({ kind = "failed", message = reason })
   self:tell("lost", { kind = "failed", message = reason })
+  self:drop({ kind = "failed", message = reason })
 end
 
 function Client:drop(fault)
