@@ -51,6 +51,11 @@ class Script:
         self.parts.append(b"removeunder %s\n" % prefix)
         self.documents = {name: body for name, body in self.documents.items() if not name.startswith(prefix)}
 
+    def copy_under(self, beginning, other):
+        self.parts.append(b"copyunder %s %s\n" % (beginning, other))
+        copies = {other + name[len(beginning) :]: body for name, body in self.documents.items() if name.startswith(beginning)}
+        self.documents.update(copies)
+
     def search(self, pattern, names, candidates=None):
         """A publish and a search that finds all lines of the documents of these names, which are of one line each. Its
         candidates are these, or as many as are given."""
@@ -153,6 +158,30 @@ def names_that_go_by_their_beginning():
         script.check()
 
 
+def names_that_are_copied():
+    """In trees of three letters, documents are copied by their beginnings, of any length, to any other one: also to one that begins with
+    the first, or that the first begins with, over documents that are there, and while some are not yet published."""
+    source = random.Random(7)
+    for size in 1, 3, 40, 400:
+        script = Script()
+        for _ in range(6):
+            for _ in range(size):
+                script.put(bytes(source.choices(b"a/\xc3", k=source.randrange(1, 7))), source.choice([b"abc", b"bcd", b"cde"]))
+            for _ in range(4):
+                name = source.choice([*script.documents])
+                beginning = name[: source.randrange(1, len(name) + 1)]
+                others = [beginning[:-1] or b"b", beginning + source.choice([b"a", b"/"]), bytes(source.choices(b"a/\xc3", k=source.randrange(1, 4))), beginning]
+                if sum(name.startswith(beginning) for name in script.documents) < 2_000:
+                    script.copy_under(beginning, source.choice(others))
+                if source.random() < 0.3:
+                    script.remove_under(source.choice([*script.documents])[:3])
+                if not script.documents or source.random() < 0.5:
+                    script.put(name, source.choice([b"abc", b"bcd"]))
+            for text in b"abc", b"bcd", b"":
+                script.search(text, [name for name, body in script.documents.items() if text in body])
+        script.check()
+
+
 def text_of(number):
     """A text of five bytes, whose first trigram no other number below 17,576 has."""
     return bytes(97 + number // step % 26 for step in (1, 26, 676)) + b"xy"
@@ -223,4 +252,4 @@ def bodies():
 
 
 if __name__ == "__main__":
-    run_tests([candidates_after_commands, documents_that_go, numbers_that_go_in_any_order, names_that_go_by_their_beginning, document_that_is_replaced_often, one_of_many_trigrams, bodies])
+    run_tests([candidates_after_commands, documents_that_go, numbers_that_go_in_any_order, names_that_go_by_their_beginning, names_that_are_copied, document_that_is_replaced_often, one_of_many_trigrams, bodies])

@@ -317,6 +317,11 @@ def removes_under_a_prefix(n):
     return after(puts + b"publish\n" * 3, b"removeunder f\npublish\n")
 
 
+def copies_under_a_prefix(n):
+    """All documents are copied to other names, and again over these."""
+    return after(published(n), b"copyunder f g\npublish\ncopyunder f g\npublish\n")
+
+
 def removes_under_one_prefix_after_another(n):
     """As many commands as documents, each of which removes one: those with longer names went before."""
     return after(published(n), b"".join(b"removeunder f%d\n" % number for number in reversed(range(n))) + b"publish\n")
@@ -646,6 +651,7 @@ GROWTHS = [
     Row(removes_from_the_end, 500),
     Row(removes_under_a_prefix, 500),
     Row(removes_under_one_prefix_after_another, 500, BOTH, 5.5),
+    Row(copies_under_a_prefix, 500),
     Row(puts_and_removes, 500),
     Row(publishes_of_nothing, 1000),
     Row(searches, 500),

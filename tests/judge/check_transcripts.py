@@ -813,6 +813,7 @@ def random_item(chance, asked):
         [b"put %s %d\n%s" % (name, len(text), text)] * 4
         + [b"remove " + name] * 2
         + [b"removeunder " + chance.choice([b"a", b"A", b"a/", b"a/b", b"ab", b""])]
+        + [b"copyunder %s %s" % (chance.choice([b"a", b"A", b"a/", b"a/b", b"c", b""]), chance.choice([b"a", b"A", b"a/", b"a/b", b"c", b"d", b""]))] * 2
         + [b"publish"] * 3
         + [b"search " + chance.choice([b"ab", b"^b|a$", b"b+$", b"(ab)*", b"zz"])] * 8
         + [b"searchin %s b" % chance.choice([b"^a", b"b$|c"])]

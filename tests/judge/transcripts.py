@@ -107,6 +107,9 @@ def items_of(script):
             items.append(Item("remove", line_number, name=rest))
         elif word == b"removeunder" and space:
             items.append(Item("removeunder", line_number, name=rest))
+        elif word == b"copyunder" and b" " in rest:
+            name, _, other = rest.partition(b" ")
+            items.append(Item("copyunder", line_number, name=name, other=other))
         elif word == b"put":
             form = re.fullmatch(rb"(.*) ([0-9]{1,9})", rest)
             reason, end = "bad put", at
@@ -120,6 +123,11 @@ def items_of(script):
         else:
             items.append(Item("bad", line_number, reason="bad line"))
     return items
+
+
+def copies_under(documents, beginning, other):
+    """What a copyunder puts: the documents whose names have this beginning, with the other one in its place."""
+    return {other + name[len(beginning) :]: body for name, body in documents.items() if name.startswith(beginning)}
 
 
 def rows_of(head, asked):
@@ -191,6 +199,8 @@ class Run:
             return [None if words["is_asked"] else "no such search"]
         fault = None if kind == "publish" else fault_of_name(words["name"], self.lengths.name)
         scarce = ["out of memory"] if self.scarce and not fault else []
+        if kind == "copyunder":
+            fault = fault or fault_of_name(words["other"], self.lengths.name)
         if kind == "load":
             fault = fault or (None if words["path"] in self.files else "cannot load")
             words["body"] = self.files.get(words["path"])
@@ -200,6 +210,12 @@ class Run:
             fault = "no such file"
         if kind == "removeunder" and not fault and not any(name.startswith(words["name"]) for name in now):
             fault = "no such file"
+        if kind == "copyunder" and not fault:
+            copies = copies_under(now, words["name"], words["other"])
+            if not copies:
+                fault = "no such file"
+            elif any(fault_of_name(name, self.lengths.name) for name in copies):
+                fault = "name too long"
         if kind != "publish" and not fault and len(self.states) > self.max_commands:
             fault = "full"
         return [fault] + scarce
@@ -216,6 +232,9 @@ class Run:
             self.states.append(after)
         elif item.kind == "removeunder":
             self.states.append({name: body for name, body in self.states[-1].items() if not name.startswith(item.words["name"])})
+        elif item.kind == "copyunder":
+            before = self.states[-1]
+            self.states.append({**before, **copies_under(before, item.words["name"], item.words["other"])})
 
     def last_published(self, place):
         """The version that the last publish before a place published."""

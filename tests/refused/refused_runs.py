@@ -38,8 +38,14 @@ from refused import counting  # noqa: E402
 
 # After a remove of names that are published and not yet published, another name is left.
 REMOVES = put(b"a/x", b"x") + put(b"a/y", b"x") + put(b"b", b"x") + b"publish\n" + put(b"a/z", b"x") + b"removeunder a/\npublish\nsearch x\nsync\n"
+# After a copy of names that are published and not yet published, over one that is there and to one that begins with the first text.
+COPIES = put(b"a/x", b"x") + put(b"a/b/x", b"y") + put(b"b", b"x") + b"publish\n" + put(b"a/z", b"x") + b"copyunder a/ a/b/\npublish\nsearch x\nsync\n"
 # Scripts, and what they write with memory.
-SCRIPTS = {REPLACEMENT: OLD + OLD_AGAIN + NO_OLD + NEW, REMOVES: b"search 1 version 5 lines 1\nb:1:x\n"}
+SCRIPTS = {
+    REPLACEMENT: OLD + OLD_AGAIN + NO_OLD + NEW,
+    REMOVES: b"search 1 version 5 lines 1\nb:1:x\n",
+    COPIES: b"search 1 version 5 lines 5\na/b/x:1:x\na/b/z:1:x\na/x:1:x\na/z:1:x\nb:1:x\n",
+}
 NO_MEMORY = b"tsearch: out of memory\n"
 NO_READERS, TWO_READERS = ["--readers", "0"], ["--readers", "2"]
 SESSION, READING = ["--live"] + NO_READERS, ["--live"] + TWO_READERS

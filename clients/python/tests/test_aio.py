@@ -103,6 +103,9 @@ class Sessions(unittest.IsolatedAsyncioTestCase):
                     with self.assertRaises(tsearch.PatternRefused):
                         await session.find("a\nb")
             self.assertEqual(len(await session.find("x")), 1)
+            await (await session.copy_under("a", "b/a")).wait()
+            self.assertEqual((await session.publish()).documents, 2)
+            await (await session.remove_under("b/")).wait()
             await (await session.remove_under("a")).wait()
             self.assertEqual((await session.publish()).documents, 0)
 

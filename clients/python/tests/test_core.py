@@ -30,6 +30,8 @@ class Sending(unittest.TestCase):
         self.assertEqual(b"".join(core.load("a", b"/tmp/a b")[1]), b"load a /tmp/a b\n")
         self.assertEqual(b"".join(core.remove(b"\xff\n")[1]), b"remove \xff%0A\n")
         self.assertEqual(b"".join(core.remove_under("a b/")[1]), b"removeunder a%20b/\n")
+        copied, parts = core.copy_under("a b/", b"\xff:")
+        self.assertEqual((b"".join(parts), copied.name), (b"copyunder a%20b/ \xff:\n", b"\xff:"))
         self.assertEqual(b"".join(core.publish()[2]), b"publish\nstatus\n")
         for query, item in (
             (Query.of("o w"), b"find -Z -- o w\n"),
@@ -83,6 +85,10 @@ class Sending(unittest.TestCase):
                 with self.assertRaises(ChangeRefused) as raised:
                     call()
                 self.assertEqual((raised.exception.reason, raised.exception.name), (reason, name))
+            for words, called in ((name, "to"), b"to"), (("from", name), name):
+                with self.assertRaises(ChangeRefused) as raised:
+                    core.copy_under(*words)
+                self.assertEqual((raised.exception.reason, raised.exception.name), (reason, called))
         for path in b"", b"a\nb", b"a\0":
             self.assertRaises(ChangeRefused, core.load, "a", path)
         self.assertEqual(str(ChangeRefused("name empty", b"")), "name empty")

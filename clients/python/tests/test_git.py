@@ -45,7 +45,9 @@ class Revisions(unittest.TestCase):
 
     def carry_out(self, step: tsearch.folder.Step) -> None:
         """Sends a step of a look."""
-        if step.under:
+        if step.source is not None:
+            self.session.copy_under(step.source, step.name)
+        elif step.under:
             self.session.remove_under(step.name)
         elif step.body is None:
             self.session.remove(step.name)
@@ -80,6 +82,39 @@ class Revisions(unittest.TestCase):
         made.commit("feature/x", {b"back": b"int back;\n"}, start="main")
         revisions.refresh()
         self.expect(named(made, "main", "feature/x"))
+
+    def test_branches_begin_as_copies(self) -> None:
+        """Of the first one, with what is left out. Then they cost what they have otherwise."""
+        made = self.made
+        made.commit("main", {**FILES, b"binary": b"\0", b"other binary": b"\0"})
+        made.commit("topic", {b"src/x.c": b"int x;\n", b"README": None, b"binary": b"a text\n", b"src/util.c": b"\0"}, start="main")
+        made.commit("same", {b"new": b"int new;\n"}, start="topic")
+        for branches in ["main", "topic", "same"], ["topic", "main", "same"]:
+            with self.subTest(branches), tsearch.Session() as self.session:
+                revisions = git.Revisions(self.session, made.path, branches)
+                accepted = revisions.refresh().published.accepted
+                self.assertLess(accepted, len(FILES) + 2 * 6)
+                documents = {name: body for name, body in named(made, *branches).items() if body != b"\0"}
+                self.expect(documents)
+                left_out = {name: "binary" for name, body in named(made, *branches).items() if body == b"\0"}
+                self.assertEqual(revisions.left_out, left_out)
+                self.assertEqual(revisions._objects.totals, (len(documents), sum(map(len, documents.values()))))
+                self.assertEqual(revisions.refresh()[:2], (0, 0))
+
+    def test_a_copy_that_is_refused(self) -> None:
+        """Its files are put then, and those that can be no documents are left out."""
+        made = self.made
+        made.commit("main", {b"a" * 200: b"int a;\n", b"b": b"int b;\n"})
+        branch = "t" * 200
+        made.commit(branch, {b"c": b"int c;\n"}, start="main")
+        prefix = b"p/" * 1_900
+        revisions = git.Revisions(self.session, made.path, ["main", branch], prefix=prefix)
+        self.assertEqual([one.name for one in revisions.refresh().published.refused], [prefix + branch.encode() + b":"])
+        revisions.refresh()
+        wanted = named(made, "main", branch, prefix=prefix)
+        self.expect({name: body for name, body in wanted.items() if len(name) <= 4_096})
+        self.assertEqual(list(revisions.left_out), [branch.encode() + b":" + b"a" * 200])
+        self.assertEqual(revisions.refresh()[:2], (0, 0))
 
     def test_renames(self) -> None:
         made = self.made

@@ -130,6 +130,30 @@ class Answers(unittest.TestCase):
                 self.assertEqual((published.documents, published.accepted), (len(left), len(names) + (left != names)))
                 self.assertEqual(sorted(session.find("x", names_only=True).names()), sorted(left))
 
+    def test_copies_under_a_prefix(self) -> None:
+        """They are of what was accepted before, published or not, and also in the place of what is there."""
+        bodies = {b"a b/c": b"x1\n", b"a b/d": b"x2\n", b"a b": b"x3\n", b"\xff/c": b"x4\n", b"\xff": b"x5\n"}
+        for prefix, to in (b"a b/", b"\xff/"), (b"a b/", b"a b/new/"), (b"a b", b"%41"), (b"\xff", b"\xff"), (b"none", b"x"), (b"a b", b"n" * 4_096):
+            copied = {to + name.removeprefix(prefix): body for name, body in bodies.items() if name.startswith(prefix)}
+            is_refused = not copied or any(len(name) > 4_096 for name in copied)
+            left = bodies if is_refused else {**bodies, **copied}
+            with self.subTest((prefix, to)), tsearch.Session() as session:
+                for name, body in bodies.items():
+                    session.put(name, body)
+                change = session.copy_under(prefix, to)
+                self.assertEqual(change.name, to)
+                published = session.publish()
+                self.assertEqual([refusal.name for refusal in published.refused], [to] * is_refused)
+                self.assertEqual((published.documents, published.accepted), (len(left), len(bodies) + (not is_refused)))
+                self.assertEqual(sorted(plain(session.find("x"))), sorted((name, 1, body[:-1]) for name, body in left.items()))
+                # what is copied stays when the other changes
+                session.put(b"a b/c", b"x6\n")
+                session.remove(b"a b/d")
+                session.publish()
+                left = {**left, b"a b/c": b"x6\n"}
+                del left[b"a b/d"]
+                self.assertEqual(sorted(plain(session.find("x"))), sorted((name, 1, body[:-1]) for name, body in left.items()))
+
     def test_searches_under_prefixes(self) -> None:
         names = [b"%41/b", b"%41", b"A/b", b"a b/c", b"a b", b"a/b", b"\xff/a", b"\xff"]
         with tsearch.Session() as session:

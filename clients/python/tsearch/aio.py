@@ -222,7 +222,7 @@ class Change:
 
     @property
     def name(self) -> bytes:
-        """The name of the document, or the prefix of a `remove_under`."""
+        """The name of the document, or the prefix of a `remove_under`, or what the names of a `copy_under` begin with then."""
         assert self._sent.name is not None
         return self._sent.name
 
@@ -286,6 +286,12 @@ class Changes:
         """Removes each document whose name begins with the prefix. It is one change; it is refused if there is no such document, and
         for a prefix that cannot be a name, as the empty one."""
         return await self._change(lambda core: core.remove_under(prefix))
+
+    async def copy_under(self, prefix: str | bytes, to: str | bytes) -> Change:
+        """Puts each document whose name begins with the prefix, as the documents are before, also under the name with `to` in place of the
+        prefix, in the place of one that is there. It is one change, and takes no memory for bodies. Refused, it changes nothing: if there
+        is no such document, or a name would be too long. The `name` of a refusal is `to`."""
+        return await self._change(lambda core: core.copy_under(prefix, to))
 
     async def _change(self, make: Callable[[Core], tuple[Sent, list[bytes]]]) -> Change:
         connection = self._connection
@@ -660,7 +666,7 @@ class Kept:
         loaded: Awaitable[object] | None = None
         while self._unsent or await self._has_more(steps):
             step = self._unsent[0]
-            name, body, done, of, path, under = step
+            name, body, done, of, path, under, source = step
             self._is_pending = True
             if done % BATCH == 0 and loaded:
                 # while the program has the next ones
@@ -677,6 +683,10 @@ class Kept:
                 loaded = loaded or await changes.mark()
                 await changes.load(name, path)
                 put += 1
+            elif source is not None:
+                assert isinstance(changes, Changes)
+                await changes.copy_under(source, name)
+                put += under
             elif body is None:
                 await _remove(changes, step)
                 removed += under or 1
@@ -846,7 +856,7 @@ class Revisions(Kept):
         progress: Progress | None = None,
         published: Callable[[Published], object] | None = None,
     ) -> None:
-        self._objects = Objects(Store(path), wanted, prefix)
+        self._objects = Objects(Store(path), wanted, prefix, copies=isinstance(session, Session))
         super().__init__(session, self._objects, progress, None, published)
 
     @property

@@ -144,6 +144,15 @@ class Core:
         """A remove of all documents whose names begin with the prefix. `ChangeRefused` at once for a prefix that is a bad name."""
         return self._item(to_bytes(prefix), [b"removeunder %s\n" % checked(prefix)])
 
+    def copy_under(self, prefix: str | bytes, to: str | bytes) -> tuple[Sent, list[bytes]]:
+        """A copy of all documents whose names begin with the prefix. `ChangeRefused` at once if one of the two is a bad name. What is
+        refused is called by `to`."""
+        try:
+            begin = checked(prefix)
+        except ChangeRefused as refused:
+            raise ChangeRefused(refused.reason, to_bytes(to)) from None
+        return self._item(to_bytes(to), [b"copyunder %s %s\n" % (begin, checked(to))])
+
     def publish(self, tells: bool = True) -> tuple[Sent, Sent, list[bytes]]:
         """A publish and a status behind it, by which the publish and all before it are known to be carried out. Without `tells` the next
         one that tells has what was refused."""

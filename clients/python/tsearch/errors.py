@@ -38,7 +38,8 @@ class OptionRefused(Refused):
 
 
 class ChangeRefused(Refused):
-    """A put, a load or a remove is refused. `name` is the document's, or the prefix of a `remove_under`."""
+    """A put, a load, a remove or a copy is refused. `name` is the document's, or the prefix of a `remove_under`, or what the names of a
+    `copy_under` would have begun with."""
 
     def __init__(self, reason: str, name: bytes) -> None:
         super().__init__(reason, name)

@@ -40,7 +40,7 @@ MOST_TOGETHER = 64
 class Step(NamedTuple):
     """A document to put, or to remove if there is no body; for how many documents steps have come before, and for how many at most. With a
     path the program is to load the document from there. With `under` so many documents are to be removed at once, which are all those whose
-    names begin with this one."""
+    names begin with this one; or, with a `source` too, to be copied at once from those whose names begin with that."""
 
     name: bytes
     body: bytes | None
@@ -48,6 +48,7 @@ class Step(NamedTuple):
     of: int
     path: bytes | None = None
     under: int = 0
+    source: bytes | None = None
 
 
 class LeftOut(NamedTuple):
@@ -478,7 +479,7 @@ class Kept:
     def _send(self, changes: Changes) -> tuple[int, int]:
         put = removed = 0
         loaded: Callable[[], object] | None = None
-        for name, body, done, of, path, under in self._source.steps():
+        for name, body, done, of, path, under, source in self._source.steps():
             self._is_pending = True
             if done % BATCH == 0 and loaded:
                 # while the program has the next ones
@@ -491,6 +492,9 @@ class Kept:
                 loaded = loaded or changes.mark()
                 changes.load(name, path)
                 put += 1
+            elif source is not None:
+                changes.copy_under(source, name)
+                put += under
             elif under:
                 changes.remove_under(name)
                 removed += under

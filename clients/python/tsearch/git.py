@@ -18,7 +18,7 @@ import stat
 import subprocess
 import threading
 import time
-from collections.abc import Iterable, Iterator, Mapping, Sequence
+from collections.abc import Collection, Iterable, Iterator, Mapping, Sequence
 from typing import IO, NamedTuple
 
 from . import names
@@ -221,9 +221,18 @@ def _is_unfit(name: str) -> bool:
 
 class Objects:
     """What a session has of a repository's revisions, as its client knows it: a document for each file, named `prefix`, the name of the
-    revision, a colon and the path. It sends nothing."""
+    revision, a colon and the path. It sends nothing.
 
-    def __init__(self, store: Store, wanted: Sequence[str], prefix: str | bytes = b"") -> None:
+    copies: whether a revision that comes begins as a copy of the documents of the first one, and then costs the files in which the two
+        differ. A cluster cannot copy.
+    """
+
+    def __init__(self, store: Store, wanted: Sequence[str], prefix: str | bytes = b"", *, copies: bool = False) -> None:
+        self._copies = copies
+        # revisions whose copy was refused: their files are put
+        self._is_put: set[str] = set()
+        # the revisions that were copied since the last publish, by that which they are copies of, with the paths that they have otherwise
+        self._since: dict[str, dict[str, Collection[bytes]]] = collections.defaultdict(dict)
         self.store = store
         self.root = store.path
         self.prefix = names.to_bytes(prefix)
@@ -246,6 +255,8 @@ class Objects:
         self.commits = {}
         self.left_out.clear()
         self.held.clear()
+        self._is_put.clear()
+        self._since.clear()
         self._bytes = 0
         self._new.clear()
 
@@ -267,16 +278,15 @@ class Objects:
         gone = [one for one in self.held if one not in now]
         removed = {revision: self._removed(revision) for revision in gone}
         put: list[tuple[bytes, Entry]] = []
+        base, copied = self._to_copy(now)
         for revision, commit in now.items():
-            if self.commits.get(revision) != commit:
-                changed = self._changes(revision, commit)
-                start = self._start(revision)
-                removed[revision] = [path for path in changed if changed[path] is None and path in self.held[revision]]
-                self._pass_over(start, changed)
-                put += [(start + path, entry) for path, entry in changed.items() if entry is not None]
+            if self.commits.get(revision) != commit and revision not in copied:
+                self._change(revision, self._changes(revision, commit), removed, put)
         # of a look that fails midway it is not known which documents were sent: the next one sends all of these revisions
         self._seen, self.commits = None, {revision: commit for revision, commit in self.commits.items() if now.get(revision) == commit}
         yield from self._steps(removed, put)
+        for revision in copied:
+            yield from self._copied(base, now[base], revision, now[revision])
         self.commits = now
         for revision in gone:
             del self.held[revision]
@@ -284,6 +294,38 @@ class Objects:
         is_settled = all(modified <= began - TICK for _, modified, _, _ in stamp)
         is_whole = all(is_glob(name) or name in now for name in wanted)
         self._seen = (stamp, wanted) if is_settled and is_whole else None
+
+    def _to_copy(self, now: Mapping[str, str]) -> tuple[str, list[str]]:
+        """The first revision, and those others of which the session has nothing, and which begin as copies of it."""
+        first = next(iter(now), "")
+        if not self._copies:
+            return first, []
+        return first, [one for one in now if self.commits.get(one) != now[one] and not self.held.get(one) and one not in {first, *self._is_put}]
+
+    def _copied(self, base: str, commit: str, revision: str, own: str) -> Iterator[Step]:
+        """The steps for a revision that begins as a copy of another one, which the session has as of this commit."""
+        start, from_start = self._start(revision), self._start(base)
+        self.held[revision] = dict(self.held.get(base, {}))
+        if held := self.held[revision]:
+            yield Step(self.prefix + start, None, 0, len(held), under=len(held), source=self.prefix + from_start)
+            self._bytes += sum(held.values())
+        for name, reason in [pair for pair in self.left_out.items() if pair[0].startswith(from_start)]:
+            self._leave_out(start + name.removeprefix(from_start), reason)
+        changed = self.store.changes(commit, own)
+        self._since[base][revision] = changed.keys()
+        removed: dict[str, list[bytes]] = {}
+        put: list[tuple[bytes, Entry]] = []
+        self._change(revision, changed, removed, put)
+        yield from self._steps(removed, put)
+
+    def _change(
+        self, revision: str, changed: Mapping[bytes, Entry | None], removed: dict[str, list[bytes]], put: list[tuple[bytes, Entry]]
+    ) -> None:
+        """Notes what is to be removed and to be put for the files of a revision that have changed."""
+        start = self._start(revision)
+        removed[revision] = [path for path in changed if changed[path] is None and path in self.held[revision]]
+        self._pass_over(start, changed)
+        put += [(start + path, entry) for path, entry in changed.items() if entry is not None]
 
     def _start(self, revision: str) -> bytes:
         return names.to_bytes(revision) + b":"
@@ -296,8 +338,7 @@ class Objects:
         return list(self.held[revision])
 
     def _changes(self, revision: str, commit: str) -> Mapping[bytes, Entry | None]:
-        """What a revision has at a commit otherwise than the session has it. A copy of the documents of another revision, from which this
-        one differs least, has its place here."""
+        """What a revision has at a commit otherwise than the session has it."""
         before = self.commits.get(revision)
         held = self.held.setdefault(revision, {})
         if before is not None:
@@ -382,13 +423,31 @@ class Objects:
         stale = []
         for refusal in refused:
             name = refusal.name.removeprefix(self.prefix)
-            if refusal.name.startswith(self.prefix) and _split(name)[1] in self.held.get(_split(name)[0], ()):
-                if name not in self._new:
-                    stale.append(refusal.name)
-                self._drop(name)
-                self._leave_out(name, called(refusal.reason))
+            if refusal.name.startswith(self.prefix) and name.endswith(b":") and _split(name)[0] in self.held:
+                self._forget_copy(_split(name)[0])
+            elif refusal.name.startswith(self.prefix) and _split(name)[1] in self.held.get(_split(name)[0], ()):
+                is_stale = name not in self._new
+                for own in (name, *self._copies_of(*_split(name))):
+                    if is_stale:
+                        stale.append(self.prefix + own)
+                    self._drop(own)
+                    self._leave_out(own, called(refusal.reason))
         self._new.clear()
+        self._since.clear()
         return stale
+
+    def _copies_of(self, revision: str, path: bytes) -> list[bytes]:
+        """The names under which a document was copied since the last publish, and is not changed."""
+        copies = self._since.get(revision, {})
+        return [self._start(one) + path for one, changed in copies.items() if path not in changed and path in self.held.get(one, {})]
+
+    def _forget_copy(self, revision: str) -> None:
+        """The session has refused to copy another revision: the next look puts the files of this one."""
+        for path in list(self.held[revision]):
+            self._drop(self._start(revision) + path)
+        self._is_put.add(revision)
+        self.commits.pop(revision, None)
+        self._seen = None
 
     def is_new(self, name: bytes) -> bool:
         """Whether the document of a step is new to the session."""
@@ -460,7 +519,7 @@ class Revisions(Kept):
         prefix: str | bytes = b"",
         progress: Progress | None = None,
     ) -> None:
-        self._objects = Objects(Store(path), wanted, prefix)
+        self._objects = Objects(Store(path), wanted, prefix, copies=True)
         super().__init__(session, self._objects, progress)
 
     @property

@@ -343,7 +343,7 @@ class Change:
 
     @property
     def name(self) -> bytes:
-        """The name of the document, or the prefix of a `remove_under`."""
+        """The name of the document, or the prefix of a `remove_under`, or what the names of a `copy_under` begin with then."""
         assert self._sent.name is not None
         return self._sent.name
 
@@ -420,6 +420,12 @@ class Changes:
         """Removes each document whose name begins with the prefix. It is one change; it is refused if there is no such document, and
         for a prefix that cannot be a name, as the empty one."""
         return self._change(lambda core: core.remove_under(prefix))
+
+    def copy_under(self, prefix: str | bytes, to: str | bytes) -> Change:
+        """Puts each document whose name begins with the prefix, as the documents are before, also under the name with `to` in place of the
+        prefix, in the place of one that is there. It is one change, and takes no memory for bodies. Refused, it changes nothing: if there
+        is no such document, or a name would be too long. The `name` of a refusal is `to`."""
+        return self._change(lambda core: core.copy_under(prefix, to))
 
     def _change(self, make: Callable[[Core], tuple[Sent, list[bytes]]]) -> Change:
         connection = self._connection

@@ -35,6 +35,7 @@ A script is a list of lines:
   load NAME PATH      takes the file PATH as the document NAME
   remove NAME         removes the document NAME
   removeunder PREFIX  removes all documents whose names begin with PREFIX
+  copyunder FROM TO   copies all documents whose names begin with FROM to names with TO in its place
   publish             lets searches see all puts, loads and removes so far
   search ERE          lists the lines with a match of the expression ERE
   searchin NAMES ERE  lists them only in documents whose names match the expression NAMES

@@ -247,14 +247,14 @@ module _ {version : ℕ} {numbers : BTreeMap (List ℕ) ℕ} {groups : Groups} {
   pub IsIndex-put : (name body : List ℕ) (number : ℕ) (new : BTreeMap (List ℕ) ℕ) (mid : List Document) (mid_groups last_groups : Groups) (last : Store) (bytes : ℕ)
       → is_number number (of_name name) ≡ false
       → ((q : List ℕ) → get (slice_cmp nat_cmp) new q ≡ cond (bytes_eq name q) (Some number) (of_name q))
-      → IsOrdered (slice_cmp nat_cmp) new → btree_map_len new ≤ btree_map_len numbers + 1 → IsName name
+      → IsOrdered (slice_cmp nat_cmp) new → btree_map_len new ≤ btree_map_len numbers + 1 → btree_map_len numbers + 1 < 2 ^ 32 → IsName name
       → ((m : ℕ) (q : List ℕ) → has_name mid_groups mid m q ≡ with_name number name (has_name groups (stored store)) m q)
       → ((m : ℕ) (q : List ℕ) → has_name groups (stored store) m q ≡ true → body_at mid m ≡ body_at (stored store) m)
       → body_at mid number ≡ body → AreContents (version + 1) mid
       → IsLeft (of_name name) name mid mid_groups (stored last) last_groups → IsStore (version + 1) last → version + 1 < 2 ^ 32
       → bytes ≡ body_bytes (insert (documents_of numbers store) name body)
       → IsIndex (version + 1) new last_groups last bytes × (documents_of new last ≡ insert (documents_of numbers store) name body)
-  IsIndex-put name body number new mid mid_groups last_groups last bytes other entered ordered longer is_name joined stay here are left kept few counted = (
+  IsIndex-put name body number new mid mid_groups last_groups last bytes other entered ordered longer room is_name joined stay here are left kept few counted = (
     record {
       kept = kept;
       contents = left.contents (version + 1) are;
@@ -262,7 +262,7 @@ module _ {version : ℕ} {numbers : BTreeMap (List ℕ) ℕ} {groups : Groups} {
       names = names;
       ordered = ordered;
       good = λ q h. good q (bytes_eq name q) refl (subst IsSome (entered q) h);
-      fewer = omega (arith, longer, is.fewer);
+      fewer = omega (arith, longer, room);
       bytes = counted ∙ ap body_bytes (sym documents);
       few = few;
     },

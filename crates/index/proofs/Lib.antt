@@ -23,3 +23,6 @@ pub mod LeaveLemmas
 pub mod CountLemmas
 pub mod NewLemmas
 pub mod RemovedLemmas
+pub mod RenamedLemmas
+pub mod CopyingLemmas
+pub mod CopiedLemmas

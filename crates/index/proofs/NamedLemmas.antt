@@ -1,5 +1,5 @@
 -- The documents of an index, which are found by their d for, and then by the numbers of their contents.
-use Rattle.std.proofs.Common.{◌≡◌, ◌≢◌, ℕ, suc, ◌<◌, ◌≤◌, ◌==◌, ◌&&◌, not, ◌++◌, ◌⊎◌, inl, inr, Bool, true, false, cond, List, [], ◌∷◌, map, length}
+use Rattle.std.proofs.Common.{◌≡◌, ◌≢◌, ℕ, suc, ◌^◌, ◌<◌, ◌≤◌, ◌==◌, ◌&&◌, not, ◌++◌, ◌⊎◌, inl, inr, Bool, true, false, cond, List, [], ◌∷◌, map, length}
 use Rattle.std.proofs.Common.{get_or, Option, Some, None, Contains, refl, sym, ◌∙◌, ap, subst, arith}
 use Rattle.std.specs.Prelude.{All, AllPairs, IsSome, IfSome, bytes_eq, filter, option_map, sum}
 use Rattle.std.specs.List.{AllByRecursion}
@@ -375,7 +375,7 @@ module _ {version : ℕ} {numbers : BTreeMap (List ℕ) ℕ} {groups : Groups} {
         (λ n there. count-names n (chosen-contents n there))
         ∙ ap length (filter_same (λ d. has members d.number) (meets formula) documents chosen-numbers)
 
-    pub few-chosen : sum (map (names_count groups) members) ≤ version
+    pub few-chosen : sum (map (names_count groups) members) < 2 ^ 32
     few-chosen =
         omega (
           arith,

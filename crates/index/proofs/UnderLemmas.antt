@@ -222,3 +222,18 @@ module _ (text : List ℕ) (first : Bound (List ℕ)) (is : IsFirstUnder text fi
       second : (t : Bool) {u : Bool} → (t && u) ≡ true → u ≡ true
       second true h = h
       second false h = absurd (false≢true h)
+
+  pub under-first : (entries left : List (List ℕ × ℕ)) → left ≡ entries_between (slice_cmp nat_cmp) first Unbounded entries
+      → filter (λ e. begins_with text e.0) left ≡ filter (λ e. begins_with text e.0) entries
+  under-first entries left are =
+      ap (filter (λ e. begins_with text e.0)) are
+      ∙ filter_before (λ e. begins_with text e.0) (λ e. inside e.0) (λ e h. inside-le e.0 ∙ begins_le text e.0 h) entries
+
+-- at the first name that does not begin with the text, no entry is left
+pub none_more : (text : List ℕ) (left rest : List (List ℕ × ℕ)) (name : List ℕ) (number : ℕ) → left ≡ (name, number) ∷ rest
+    → Behind text left → begins_with text name ≡ false → filter (λ e. begins_with text e.0) left ≡ []
+none_more text left rest name number next is other = no_keys (filter (λ e. begins_with text e.0) left) (picked-none (λ n. true) text left rest name number next is other)
+  where
+    no_keys : (es : List (List ℕ × ℕ)) → keys_of es ≡ [] → es ≡ []
+    no_keys [] none = refl
+    no_keys (e ∷ es) none = absurd (omega (arith, ap length none))

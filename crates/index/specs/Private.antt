@@ -7,3 +7,4 @@ pub mod Slots
 pub mod Sets
 pub mod Store
 pub mod Chosen
+pub mod Copying

@@ -7,7 +7,7 @@ ghost use Rattle.std.specs.Cmp.Lexicographic.{slice_cmp};
 ghost use Rattle.std.specs.BTreeMap.{IsUnchanged, IsOrdered, btree_map_len, get};
 ghost use Rattle.std.specs.BTreeSet.{contains};
 ghost use Rattle.std.specs.List.Sorted.{IsStrictlyIncreasing};
-ghost use Rattle.index.specs.declared.command.Command.TheVariants.{Put as put_command, Remove as remove_command, RemoveUnder as remove_under_command};
+ghost use Rattle.index.specs.declared.command.Command.TheVariants.{Put as put_command, Remove as remove_command, RemoveUnder as remove_under_command, CopyUnder as copy_under_command};
 ghost use Rattle.watch.specs.CalledOff.{IsCalledOffOnlyIf};
 ghost use Rattle.query.specs.Query.{formula_of};
 ghost use Rattle.query.specs.Trigrams.{ListsTrigrams};
@@ -25,6 +25,7 @@ ghost use Rattle.index.specs.Private.Store.{stored, IsStore, HasPlaceFor};
 
 use crate::body::Body;
 use crate::by_name::sort_by_name;
+use crate::copying::{Leaves, copies_under, enter_all, leave_all, restore_all};
 use crate::document::SharedDocument;
 use crate::error::NameError;
 use crate::groups::{join, part, take_back};
@@ -216,6 +217,9 @@ impl Catalog {
             self.version += 1;
             return Ok(true);
         }
+        if !has_room(&self.numbers, 1) {
+            return Err(AllocError);
+        }
         let held_bytes = self.bytes_with(name, old, held);
         enter_copy(
             &mut self.numbers,
@@ -282,6 +286,9 @@ impl Catalog {
         ensures ok { OnOk result (plain_state self.new ≡ applied (put_command name.now held.now) (plain_state self.old)) }
         ensures err { OnErr result (self.new ≡ self.old) }
     {
+        if !has_room(&self.numbers, 1) {
+            return Err(AllocError);
+        }
         let held_bytes = self.bytes_with(name, old, held);
         let held = held.share()?;
         let _trigrams = held.trigrams();
@@ -383,6 +390,42 @@ impl Catalog {
         ensures done { IsOk result }
     {
         while self.take_one_under(prefix, false) {}
+        self.version += 1;
+        Ok(())
+    }
+
+    /// As `Index::copy_under`. With `later`, the numbers of contents that go can wait.
+    pub(crate) fn copy_under(
+        &mut self,
+        from: &Name,
+        to: &Name,
+        later: bool,
+    ) -> Result<(), AllocError>
+        requires { self.old.version + 1 < 2 ^ 32 }
+        ensures ok { OnOk result (plain_state self.new ≡ applied (copy_under_command from.now to.now) (plain_state self.old)) }
+        ensures err { OnErr result (plain_state self.new ≡ plain_state self.old) }
+    {
+        let alloc = *self.store.slots.allocator();
+        let copies = copies_under(alloc, &self.numbers, from, to)?;
+        if !has_room(&self.numbers, copies.len()) {
+            return Err(AllocError);
+        }
+        let (count, held_bytes) = enter_all(
+            &mut self.numbers,
+            &mut self.groups,
+            &self.store,
+            &copies,
+            self.held_bytes,
+        );
+        let (hints, store) = (&mut self.hints, &mut self.store);
+        if count < copies.len() {
+            let done = &copies[..count];
+            restore_all(&mut self.numbers, done);
+            leave_all(&mut self.groups, hints, store, done, Leaves::New, later);
+            return Err(AllocError);
+        }
+        leave_all(&mut self.groups, hints, store, &copies, Leaves::Old, later);
+        self.held_bytes = held_bytes;
         self.version += 1;
         Ok(())
     }
@@ -659,26 +702,32 @@ impl Catalog {
         let mut pace = Pace::each(DOCUMENTS);
         for number in numbers {
             pace.look(watch)?;
-            self.add_if_under(number, prefixes, &mut shared)?;
+            self.add_if_under(number, prefixes, &mut shared, &mut pace, watch)?;
         }
         Ok(shared)
     }
 
-    fn add_if_under(
+    /// Adds the documents that have this number and whose names begin with one of the prefixes.
+    fn add_if_under<W: Watch>(
         &self,
         number: u32,
         prefixes: &Prefixes,
         shared: &mut Vec<SharedDocument>,
-    ) -> Result<(), AllocError>
-        ensures { OnOk result (documents_shared shared.new.items
+        pace: &mut Pace,
+        watch: &mut W,
+    ) -> Result<(), Unanswered>
+        ensures documents { OnOk result (documents_shared shared.new.items
             ≡ documents_shared shared.old.items ++ filter (is_under_any prefixes.now) (document_numbered self.now.documents number)) }
+        ensures called_off { IfErr result (IsCalledOffOnlyIf (W.has_said_no watch.new)) }
     {
         let Some(occupant) = occupant_at(&self.store.slots, number) else {
             return Ok(());
         };
         match self.groups.get(&number) {
-            Some(names) => add_named(names, number, &occupant.held, prefixes, shared),
-            None => add_one(&occupant.name, number, &occupant.held, prefixes, shared),
+            Some(names) => {
+                add_named(names, number, &occupant.held, prefixes, shared, pace, watch)
+            }
+            None => Ok(add_one(&occupant.name, number, &occupant.held, prefixes, shared)?),
         }
     }
 
@@ -947,7 +996,7 @@ fn put_content(
 }
 
 /// Enters the name under the number of a content, and among the content's names. After an `Err` nothing was entered.
-fn enter_copy(
+pub(crate) fn enter_copy(
     numbers: &mut BTreeMap<Name, u32>,
     groups: &mut BTreeMap<u32, BTreeSet<Name>>,
     store: &Store,
@@ -980,6 +1029,16 @@ fn enter_copy(
     Err(AllocError)
 }
 
+/// Whether so many more names are still counted in 32 bits.
+fn has_room(numbers: &BTreeMap<Name, u32>, more: usize) -> bool
+    ensures { IsTrue result → btree_map_len numbers.now + more < 2 ^ 32 }
+{
+    match numbers.len().checked_add(more) {
+        Some(count) => count <= u32::MAX as usize,
+        None => false,
+    }
+}
+
 /// Whether it is this number.
 fn is_number(found: Option<u32>, number: u32) -> bool
     ensures { result ≡ is_number number found }
@@ -992,7 +1051,7 @@ fn is_number(found: Option<u32>, number: u32) -> bool
 
 /// The name leaves the content with this number, if it has had one. The content goes with its last name; if that is much work and
 /// `later` is asked for, its number waits to be taken out of the sets of its trigrams. This takes no memory.
-fn leave(
+pub(crate) fn leave(
     groups: &mut BTreeMap<u32, BTreeSet<Name>>,
     hints: &mut BTreeMap<u64, u32>,
     store: &mut Store,
@@ -1017,7 +1076,7 @@ fn leave(
 }
 
 /// The length of the body of the content with this number; 0 if there is none.
-fn length_at(slots: &[Slot], number: u32) -> usize
+pub(crate) fn length_at(slots: &[Slot], number: u32) -> usize
     requires { (last : ℕ) × RiseTo last slots.now }
     ensures { result ≡ length (body_at (documents_in slots.now) number) }
 {
@@ -1147,17 +1206,21 @@ fn names_of(groups: &BTreeMap<u32, BTreeSet<Name>>, number: u32) -> usize
 }
 
 /// Adds a document with this number and body for each of these names that begins with one of the prefixes.
-fn add_named(
+fn add_named<W: Watch>(
     names: &BTreeSet<Name>,
     number: u32,
     held: &Held,
     prefixes: &Prefixes,
     shared: &mut Vec<SharedDocument>,
-) -> Result<(), AllocError>
-    ensures { OnOk result (documents_shared shared.new.items
+    pace: &mut Pace,
+    watch: &mut W,
+) -> Result<(), Unanswered>
+    ensures documents { OnOk result (documents_shared shared.new.items
         ≡ documents_shared shared.old.items ++ filter (is_under_any prefixes.now) (map (λ name. document number name held.now) names.now.keys)) }
+    ensures called_off { IfErr result (IsCalledOffOnlyIf (W.has_said_no watch.new)) }
 {
     for name in names.iter() {
+        pace.look(watch)?;
         add_one(name, number, held, prefixes, shared)?;
     }
     Ok(())

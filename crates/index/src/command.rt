@@ -12,4 +12,7 @@ pub enum Command {
     Remove(Name),
     /// Removes each document whose name begins with this prefix. If there is none, no document changes.
     RemoveUnder(Name),
+    /// Puts each document whose name begins with the first name, as the documents are before the command, under the name with the
+    /// second one in its place, also over a document that has this name. If there is none, no document changes.
+    CopyUnder(Name, Name),
 }

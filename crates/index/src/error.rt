@@ -42,7 +42,7 @@ pub struct BodyError {
 pub struct ApplyError {
     /// The command that was handed in.
     pub command: Command,
-    /// Memory ran out, or the name has too many handles.
+    /// Memory ran out, a name has too many handles, or the copies of a `CopyUnder` are no documents of an index.
     pub error: AllocError,
 }
 

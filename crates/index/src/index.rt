@@ -1,7 +1,7 @@
 //! The index: the documents that commands leave.
 
 ghost use Rattle.std.specs.Prelude.{◌≡◌, ◌+◌, ◌^◌, ◌<◌, [], OnOk, OnErr, IfErr, IfOk, IfSome, IsOk, IsTrue, IsFalse, false, option_map};
-ghost use Rattle.index.specs.declared.command.Command.TheVariants.{Put as put_command, Remove as remove_command, RemoveUnder as remove_under_command};
+ghost use Rattle.index.specs.declared.command.Command.TheVariants.{Put as put_command, Remove as remove_command, RemoveUnder as remove_under_command, CopyUnder as copy_under_command};
 ghost use Rattle.watch.specs.CalledOff.{IsCalledOffOnlyIf};
 ghost use Rattle.query.specs.Query.{formula_of};
 ghost use Rattle.index.specs.Documents.{has_under};
@@ -53,7 +53,8 @@ impl Index {
     }
 
     /// Applies a command. At most 4,294,967,295 (2^32 - 1) commands can be applied to an index. An `Err` means that
-    /// memory ran out, or that the name has too many handles; it hands the command back, and the index is as it was. The
+    /// memory ran out, that a name has too many handles, or what it means for `copy_under`; it hands the command back, and the index is
+    /// as it was. The
     /// index keeps a copy of the body of a `Put`; `apply_put` shares one instead.
     pub fn apply(&mut self, command: Command) -> Result<(), ApplyError>
         requires { self.old.version + 1 < 2 ^ 32 }
@@ -80,6 +81,13 @@ impl Index {
                 Ok(()) => Ok(()),
                 Err(error) => Err(ApplyError {
                     command: Command::RemoveUnder(prefix),
+                    error,
+                }),
+            },
+            Command::CopyUnder(from, to) => match self.copy_under(&from, &to) {
+                Ok(()) => Ok(()),
+                Err(error) => Err(ApplyError {
+                    command: Command::CopyUnder(from, to),
                     error,
                 }),
             },
@@ -204,6 +212,20 @@ impl Index {
         ensures done { IsOk result }
     {
         self.catalog.remove_under(prefix)
+    }
+
+    /// Applies the `CopyUnder` of these names. A copy has the same body, which is not held once more, and waits for no sets: only a
+    /// document that goes because a copy takes its place is taken out of some. It takes time and memory for the names that begin with
+    /// `from`. The limit on commands is that of `apply`.
+    ///
+    /// An `Err` means that memory ran out, that a name has too many handles, that a copy would have a name of more than 4,096 bytes,
+    /// or that there would be more than 4,294,967,295 (2^32 - 1) documents. The index is then as it was.
+    pub fn copy_under(&mut self, from: &Name, to: &Name) -> Result<(), AllocError>
+        requires { self.old.version + 1 < 2 ^ 32 }
+        ensures ok { OnOk result (self.new ≡ applied (copy_under_command from.now to.now) self.old) }
+        ensures err { OnErr result (self.new ≡ self.old) }
+    {
+        self.catalog.copy_under(from, to, false)
     }
 
     /// Takes out a document whose name begins with the prefix, and returns whether there is one. It is no command: the version

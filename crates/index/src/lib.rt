@@ -8,6 +8,7 @@ mod body;
 mod by_name;
 mod catalog;
 mod command;
+mod copying;
 mod document;
 mod error;
 mod groups;

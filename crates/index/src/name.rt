@@ -1,6 +1,6 @@
 //! Names of documents.
 
-ghost use Rattle.std.specs.Prelude.{◌≡◌, IfOk, IfErr, IfSome, IfNone};
+ghost use Rattle.std.specs.Prelude.{◌≡◌, ◌++◌, drop, IfOk, IfErr, IfSome, IfNone};
 ghost use Rattle.index.specs.Text.{IsName, IsNameOf, IsNameFault, has_bad_byte, usual_lengths};
 
 use crate::error::NameError;
@@ -122,6 +122,16 @@ impl Name {
             last => last.checked_add(1)?,
         };
         bytes.push(next).ok()?;
+        Name::within(alloc, bytes.as_slice(), MAX_NAME).ok()
+    }
+
+    /// The name with this one in place of its first `length` bytes, if that is a name and there is memory for it.
+    pub fn with_beginning(&self, alloc: Global, length: usize, beginning: &Name) -> Option<Name>
+        ensures { IfSome result (λ name. name ≡ beginning.now ++ drop length self.now) }
+    {
+        let rest = self.as_bytes().get(length..)?;
+        let mut bytes = Vec::from_slice(alloc, beginning.as_bytes()).ok()?;
+        bytes.extend_from_slice(rest).ok()?;
         Name::within(alloc, bytes.as_slice(), MAX_NAME).ok()
     }
 

@@ -1,6 +1,6 @@
 -- Items that own their bytes.
 use Rattle.std.specs.Prelude.{◌≡◌, ℕ, List, length}
-use Rattle.script.specs.Items.{Item, put, load, remove, remove_under, publish, search, search_in, find, sync, cancel, status}
+use Rattle.script.specs.Items.{Item, put, load, remove, remove_under, copy_under, publish, search, search_in, find, sync, cancel, status}
 use Rattle.script.specs.Items.{bad_line, bad_put, truncated, body_not_closed}
 use Rattle.input.specs.declared.owned.OwnedItem.{OwnedItem}
 use Rattle.input.specs.declared.owned.OwnedItem.TheVariants as variants
@@ -12,6 +12,7 @@ ShowsOwned (variants.SkippedPut name size) item = (body : List ℕ) × (item ≡
 ShowsOwned (variants.Load name path) item = item ≡ load name.items path.items
 ShowsOwned (variants.Remove name) item = item ≡ remove name.items
 ShowsOwned (variants.RemoveUnder prefix) item = item ≡ remove_under prefix.items
+ShowsOwned (variants.CopyUnder from to) item = item ≡ copy_under from.items to.items
 ShowsOwned variants.Publish item = item ≡ publish
 ShowsOwned (variants.Search case pattern) item = item ≡ search case pattern.items
 ShowsOwned (variants.SearchIn case name_pattern pattern) item = item ≡ search_in case name_pattern.items pattern.items

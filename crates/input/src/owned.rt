@@ -34,6 +34,10 @@ pub enum OwnedItem {
     RemoveUnder {
         prefix: Vec<u8>,
     },
+    CopyUnder {
+        from: Vec<u8>,
+        to: Vec<u8>,
+    },
     Publish,
     Search {
         case: Case,
@@ -76,6 +80,10 @@ impl OwnedItem {
             },
             Item::RemoveUnder { prefix } => OwnedItem::RemoveUnder {
                 prefix: copy_of(alloc, prefix)?,
+            },
+            Item::CopyUnder { from, to } => OwnedItem::CopyUnder {
+                from: copy_of(alloc, from)?,
+                to: copy_of(alloc, to)?,
             },
             Item::Publish => OwnedItem::Publish,
             Item::Search { case, pattern } => OwnedItem::Search {

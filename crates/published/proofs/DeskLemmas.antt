@@ -6,16 +6,18 @@ use Rattle.std.proofs.lemmas.List.{length-take, take-append-le}
 use Rattle.std.proofs.Math.Seq.{take-length}
 use Rattle.prefixes.specs.Under.{begins_with}
 use Rattle.index.specs.declared.command.Command.{Command}
-use Rattle.index.specs.declared.command.Command.TheVariants.{Put, Remove, RemoveUnder}
+use Rattle.index.specs.declared.command.Command.TheVariants.{Put, Remove, RemoveUnder, CopyUnder}
+use Rattle.index.specs.Documents.{renamed}
 use Rattle.published.specs.History.{Known}
-use Rattle.published.specs.Private.Names.{has_name}
+use Rattle.published.specs.Private.Names.{has_name, is_one_of, new_copies, names_under}
 use Rattle.published.specs.Desk.{DeskState, desk_state, with_command, has_document}
 use Rattle.published.specs.declared.names.Names.{Names}
 use Rattle.published.specs.declared.shelf.Update.{Update}
 use Rattle.published.specs.Private.Shelf.{command_of}
 use Rattle.published.specs.Private.Copies.{CopiesState, copies_state}
 use Rattle.published.specs.Private.DeskParts.{Begins, HasNamesOf}
-use Rattle.published.proofs.DocumentNames.{has_document-put, has_document-remove, has_document-remove_under}
+use Rattle.published.proofs.DocumentNames.{has_document-put, has_document-remove, has_document-remove_under, has_document-copy_under}
+use Rattle.published.proofs.CopyNames.{copied-names}
 
 -- commands begin themselves
 pub begins_same : (commands accepted : List Command) → accepted ≡ commands → Begins commands accepted
@@ -75,3 +77,16 @@ noted_remove_under commands names names' n n' same was now = λ name.
     now name
     ∙ (ap (λ b. not (begins_with n name) && b) (was name)
     ∙ (ap (λ m. not (begins_with m name) && has_document commands name) (sym same) ∙ sym (has_document-remove_under commands n' name)))
+
+pub noted_copy_under : (commands : List Command) (names names' : Names) (from from' to to' : List ℕ) → from' ≡ from → to' ≡ to
+    → HasNamesOf names commands
+    → ((name : List ℕ) → has_name names' name ≡ (is_one_of (new_copies names from to (names_under names from)) name || has_name names name))
+    → HasNamesOf names' (commands ++ CopyUnder from' to' ∷ [])
+noted_copy_under commands names names' from from' to to' same same' was now = λ name.
+    now name
+    ∙ copied-names names from to name
+    ∙ ap (λ b. (begins_with to name && b) || has_name names name) (was (renamed to from name))
+    ∙ ap (λ b. (begins_with to name && has_document commands (renamed to from name)) || b) (was name)
+    ∙ ap (λ t. (begins_with t name && has_document commands (renamed t from name)) || has_document commands name) (sym same')
+    ∙ ap (λ f. (begins_with to' name && has_document commands (renamed to' f name)) || has_document commands name) (sym same)
+    ∙ sym (has_document-copy_under commands from' to' name)

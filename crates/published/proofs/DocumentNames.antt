@@ -1,6 +1,6 @@
 -- Which names have a document after one more command.
 use Rattle.std.proofs.Common.{◌≡◌, ℕ, Bool, true, false, not, ◌&&◌, ◌||◌, cond, List, [], ◌∷◌, ◌++◌, Option, Some, None, refl, sym, ap, ◌∙◌}
-use Rattle.std.specs.Prelude.{bytes_eq, is_some}
+use Rattle.std.specs.Prelude.{bytes_eq, is_some, filter, length, nat_lt}
 use Rattle.std.proofs.lemmas.List.Folds.{Any-from_list_any, list_any-from_Any}
 use Rattle.std.proofs.lemmas.Map.Lookups.{exact_bytes}
 use Rattle.std.proofs.lemmas.Map.Views.{tells_apart, Contains-from_any, list_any-from_Contains}
@@ -11,13 +11,14 @@ use Rattle.std.specs.Ordering.{nat_cmp, eq_by_cmp}
 use Rattle.std.specs.List.{list_any}
 use Rattle.prefixes.specs.Under.{begins_with}
 use Rattle.index.specs.declared.command.Command.{Command}
-use Rattle.index.specs.declared.command.Command.TheVariants.{Put, Remove, RemoveUnder}
-use Rattle.index.specs.Documents.{documents_of}
+use Rattle.index.specs.declared.command.Command.TheVariants.{Put, Remove, RemoveUnder, CopyUnder}
+use Rattle.index.specs.Documents.{documents_of, renamed}
 use Rattle.index.proofs.LawLemmas.{get-put, get-removed, get-removed_under}
+use Rattle.index.proofs.RenamedLemmas.{one_or_other, get-copied}
 use Rattle.index.proofs.StateLemmas.{state_of-push}
-use Rattle.published.specs.Desk.{has_document, has_document_under}
+use Rattle.published.specs.Desk.{has_document, has_document_under, has_document_too_long}
 use Rattle.published.specs.Private.DeskParts.{HasNamesOf}
-use Rattle.published.specs.Private.Names.{has_name_under}
+use Rattle.published.specs.Private.Names.{has_long_copy, has_name_under}
 use Rattle.published.specs.declared.names.Names.{Names}
 
 is_some-put : {X : Type 0} (x : X) (t : Bool) (found : Option X) → is_some (cond t (Some x) found) ≡ (t || is_some found)
@@ -49,6 +50,19 @@ has_document-remove_under commands n name =
     ∙ ap is_some (get-removed_under n name (documents_of commands))
     ∙ is_some-left (begins_with n name) (get (documents_of commands) name)
 
+pub has_document-copy_under : (commands : List Command) (from to name : List ℕ)
+    → has_document (commands ++ CopyUnder from to ∷ []) name
+    ≡ ((begins_with to name && has_document commands (renamed to from name)) || has_document commands name)
+has_document-copy_under commands from to name =
+    ap (λ s. is_some (get s.documents name)) (state_of-push commands (CopyUnder from to))
+    ∙ ap is_some (get-copied from to name (documents_of commands))
+    ∙ go (begins_with to name) (get (documents_of commands) (renamed to from name)) (get (documents_of commands) name)
+  where
+    go : {X : Type 0} (b : Bool) (x y : Option X) → is_some (one_or_other (cond b x None) y) ≡ ((b && is_some x) || is_some y)
+    go true None y = refl
+    go true (Some x) y = refl
+    go false x y = refl
+
 pub has_document-none : (name : List ℕ) → has_document [] name ≡ false
 has_document-none name = ap is_some (get-empty (slice_cmp nat_cmp) name)
 
@@ -73,6 +87,31 @@ under_as commands names text named =
     (any_alike (begins_with text) names.names.keys (keys (documents_of commands)) same)
     (any_alike (begins_with text) (keys (documents_of commands)) names.names.keys (λ q. sym (same q)))
   where
+    same : (q : List ℕ) → list_any (eq_by_cmp (slice_cmp nat_cmp) q) names.names.keys
+        ≡ list_any (eq_by_cmp (slice_cmp nat_cmp) q) (keys (documents_of commands))
+    same q = named q ∙ contains_key-keys (documents_of commands) q
+
+-- the same of names that would be too long
+pub long_as : (commands : List Command) (names : Names) (most : ℕ) (from to : List ℕ) → HasNamesOf names commands
+    → has_long_copy names most from to ≡ has_document_too_long commands most from to
+long_as commands names most from to named =
+    any_filtered (λ name. nat_lt most (length (renamed from to name))) (begins_with from) names.names.keys
+    ∙ both_ways (list_any too_long names.names.keys) (list_any too_long (keys (documents_of commands)))
+    (any_alike too_long names.names.keys (keys (documents_of commands)) same)
+    (any_alike too_long (keys (documents_of commands)) names.names.keys (λ q. sym (same q)))
+  where
+    too_long : List ℕ → Bool
+    too_long name = begins_with from name && nat_lt most (length (renamed from to name))
+
+    any_filtered : (p b : List ℕ → Bool) (xs : List (List ℕ)) → list_any p (filter b xs) ≡ list_any (λ x. b x && p x) xs
+    any_filtered p b [] = refl
+    any_filtered p b (x ∷ xs) = go (b x) (any_filtered p b xs)
+      where
+        go : (t : Bool) → list_any p (filter b xs) ≡ list_any (λ y. b y && p y) xs
+            → list_any p (cond t (x ∷ filter b xs) (filter b xs)) ≡ ((t && p x) || list_any (λ y. b y && p y) xs)
+        go true deeper = ap (λ u. p x || u) deeper
+        go false deeper = deeper
+
     same : (q : List ℕ) → list_any (eq_by_cmp (slice_cmp nat_cmp) q) names.names.keys
         ≡ list_any (eq_by_cmp (slice_cmp nat_cmp) q) (keys (documents_of commands))
     same q = named q ∙ contains_key-keys (documents_of commands) q

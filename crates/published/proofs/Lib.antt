@@ -7,3 +7,4 @@ pub mod ShelfLemmas
 pub mod DeskLemmas
 pub mod CopiesLemmas
 pub mod LackingLemmas
+pub mod CopyNames

@@ -46,12 +46,12 @@ module _ (text : List ℕ) where
       ap (λ t. cond t (k ∷ filter (begins_with text) names) (filter (begins_with text) names)) (none_behind text name k low above.0 other)
       ∙ none_after name low other names above.1
 
-  begun_with : (name : List ℕ) (rest : List (List ℕ)) → begins_with text name ≡ true
+  pub begun_with : (name : List ℕ) (rest : List (List ℕ)) → begins_with text name ≡ true
       → take_while (begins_with text) (name ∷ rest) ≡ name ∷ take_while (begins_with text) rest
   begun_with name rest here =
       take_while-cons (begins_with text) name rest ∙ ap (λ t. cond t (name ∷ take_while (begins_with text) rest) []) here
 
-  ended_by : (name : List ℕ) (rest : List (List ℕ)) → begins_with text name ≡ false → take_while (begins_with text) (name ∷ rest) ≡ []
+  pub ended_by : (name : List ℕ) (rest : List (List ℕ)) → begins_with text name ≡ false → take_while (begins_with text) (name ∷ rest) ≡ []
   ended_by name rest other =
       take_while-cons (begins_with text) name rest ∙ ap (λ t. cond t (name ∷ take_while (begins_with text) rest) []) other
 
@@ -115,7 +115,7 @@ module _ (text q : List ℕ) where
   abbrev has : List (List ℕ) → Bool
   has = list_any (is_at (slice_cmp nat_cmp q))
 
-  any_same : (names : List (List ℕ)) → list_any (λ name. bytes_eq name q) names ≡ has names
+  pub any_same : (names : List (List ℕ)) → list_any (λ name. bytes_eq name q) names ≡ has names
   any_same [] = refl
   any_same (name ∷ names) =
       ap (λ t. t || list_any (λ n. bytes_eq n q) names) (bytes_eq-sym name q ∙ texts_ties q name)

@@ -2,11 +2,13 @@
 use Rattle.std.specs.Prelude.{◌≡◌, ℕ, ◌<◌, Bool, true, false, List, [], ◌∷◌, ◌++◌, length}
 use Rattle.logbook.specs.Pages.{Book}
 use Rattle.index.specs.declared.command.Command.{Command}
-use Rattle.index.specs.Documents.{documents_of, is_taken, has_under}
+use Rattle.index.specs.Documents.{documents_of, is_taken, has_under, has_long_copy}
 use Rattle.published.specs.declared.error.PutErrorKind.{PutErrorKind}
 use Rattle.published.specs.declared.error.PutErrorKind.TheVariants as put_error
 use Rattle.published.specs.declared.error.RemoveError.{RemoveError}
 use Rattle.published.specs.declared.error.RemoveError.TheVariants as remove_error
+use Rattle.published.specs.declared.error.CopyError.{CopyError}
+use Rattle.published.specs.declared.error.CopyError.TheVariants as copy_error
 
 -- the opening, the greatest number of commands, and the lists of the published and the accepted commands
 pub record DeskState : Type 0 where
@@ -52,3 +54,14 @@ abbrev pub IsRemoveFault : RemoveError → Bool → DeskState → Type 0
 IsRemoveFault remove_error.NoSuchFile found desk = found ≡ false
 IsRemoveFault remove_error.Full found desk = (found ≡ true) × IsFull desk
 IsRemoveFault remove_error.OutOfMemory found desk = (found ≡ true) × HasRoom desk
+
+-- whether a copy of these documents would have a name of more bytes than this
+abbrev pub has_document_too_long : List Command → ℕ → List ℕ → List ℕ → Bool
+has_document_too_long commands most from to = has_long_copy most from to (documents_of commands)
+
+-- the first cause for which a copy is refused; found: whether there is a document to be copied; long: whether a name would be too long
+abbrev pub IsCopyFault : CopyError → Bool → Bool → DeskState → Type 0
+IsCopyFault copy_error.NoSuchFile found long desk = found ≡ false
+IsCopyFault copy_error.TooLong found long desk = (found ≡ true) × (long ≡ true)
+IsCopyFault copy_error.Full found long desk = (found ≡ true) × (long ≡ false) × IsFull desk
+IsCopyFault copy_error.OutOfMemory found long desk = (found ≡ true) × (long ≡ false) × HasRoom desk

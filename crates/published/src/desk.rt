@@ -1,22 +1,23 @@
 //! The desk: it accepts commands, and publishes them.
 
 ghost use Rattle.std.specs.Prelude.{◌≡◌, ℕ, ◌≤◌, List, [], length, true, false, IfSome, IfOk, IfErr, OnOk, OnErr, MatchBool};
-ghost use Rattle.index.specs.declared.command.Command.TheVariants.{Put as put_command, Remove as remove_command, RemoveUnder as remove_under_command};
+ghost use Rattle.index.specs.declared.command.Command.TheVariants.{Put as put_command, Remove as remove_command, RemoveUnder as remove_under_command, CopyUnder as copy_under_command};
 ghost use Rattle.published.specs.History.{known};
+ghost use Rattle.index.specs.Text.{most_name_bytes};
 ghost use Rattle.history.specs.History.{head_of};
 ghost use Rattle.published.specs.Private.Names.{has_name};
 ghost use Rattle.published.specs.Private.Copies.{copies_state};
 ghost use Rattle.published.specs.Private.DeskParts.{Begins, HasNamesOf};
 ghost use Rattle.published.specs.declared.opening.TheConstants.{MAX_COMMANDS};
-ghost use Rattle.published.specs.Desk.{desk_state, with_command, all_published, IsFull, HasRoom, has_document, has_document_under, IsPutFault, IsRemoveFault};
+ghost use Rattle.published.specs.Desk.{desk_state, with_command, all_published, IsFull, HasRoom, has_document, has_document_under, has_document_too_long, IsPutFault, IsRemoveFault, IsCopyFault};
 
 use crate::batches::{Batch, Front, Head};
 use crate::copies::Copies;
-use crate::error::{PutError, PutErrorKind, RemoveError};
+use crate::error::{CopyError, PutError, PutErrorKind, RemoveError};
 use crate::names::Names;
 use crate::shelf::Update;
 use crate::told::Told;
-use index::{Body, Name};
+use index::{Body, MAX_NAME, Name};
 use logbook::Plain;
 use std::alloc::AllocError;
 use std::marker::Model;
@@ -251,6 +252,62 @@ impl Desk {
         self.names.remove_all(&gone);
         self.accepted += 1;
         Ok(())
+    }
+
+    /// Accepts the copy of all documents whose names begin with `from`, as they are after all commands accepted before, under the names
+    /// with `to` in its place, also over documents with these names. Returns the number of accepted commands, with this one. It takes
+    /// time and memory for the names that are copied, and none for their bodies. `longest` is how many bytes a name may have.
+    ///
+    /// An `Err` is the first cause, in the order of `CopyError`. Nothing has changed then.
+    pub fn copy_under(&mut self, from: &Name, to: &Name, longest: usize) -> Result<u32, CopyError>
+        ensures ok { OnOk result ((self.new ≡ with_command (copy_under_command from.now to.now) self.old) × HasRoom self.old) }
+        ensures there { OnOk result (has_document_under self.old.accepted from.now ≡ true) }
+        ensures short { OnOk result (has_document_too_long self.old.accepted (most_name_bytes longest) from.now to.now ≡ false) }
+        ensures count { IfOk result (λ n. n ≡ length self.new.accepted) }
+        ensures err { OnErr result (self.new ≡ self.old) }
+        ensures fault { IfErr result (λ e. IsCopyFault e (has_document_under self.old.accepted from.now)
+            (has_document_too_long self.old.accepted (most_name_bytes longest) from.now to.now) self.old) }
+    {
+        if !self.has_under(from) {
+            return Err(CopyError::NoSuchFile);
+        }
+        if self.has_long_copy(from, to, longest.min(MAX_NAME)) {
+            return Err(CopyError::TooLong);
+        }
+        if self.is_full() {
+            return Err(CopyError::Full);
+        }
+        self.accept_copy_under(from, to)?;
+        Ok(self.accepted)
+    }
+
+    /// Whether the copy of a document would have a name of more than `most` bytes, after all accepted commands.
+    fn has_long_copy(&self, from: &Name, to: &Name, most: usize) -> bool
+        ensures { result ≡ has_document_too_long self.now.accepted most from.now to.now }
+    {
+        self.names.has_long_copy(from, to, most)
+    }
+
+    fn accept_copy_under(&mut self, from: &Name, to: &Name) -> Result<(), AllocError>
+        requires { HasRoom self.old }
+        ensures ok { OnOk result (self.new ≡ with_command (copy_under_command from.now to.now) self.old) }
+        ensures err { OnErr result (self.new ≡ self.old) }
+    {
+        let own = from.share()?;
+        let other = to.share()?;
+        let sources = self.names.under(from)?;
+        let copies = self.names.new_copies(&sources, from, to)?;
+        self.names.add_all(&copies)?;
+        match self.copies.accept(Update::CopyUnder(own, other)) {
+            Ok(()) => {
+                self.accepted += 1;
+                Ok(())
+            }
+            Err(error) => {
+                self.names.remove_all(&copies);
+                Err(error)
+            }
+        }
     }
 
     /// Publishes all accepted commands, and returns the `Told` of this publish; with nothing new it publishes the same

@@ -75,3 +75,27 @@ impl From<AllocError> for RemoveError {
         RemoveError::OutOfMemory
     }
 }
+
+/// Why a copy of all documents under a name is refused. The causes are checked in this order.
+#[derive(Clone, Copy, Debug, PartialEq, Eq)]
+pub enum CopyError {
+    /// There is no document whose name begins with the first name, after all accepted commands.
+    NoSuchFile,
+    /// A name would have more bytes than names can have.
+    TooLong,
+    /// The greatest number of commands has been accepted already.
+    Full,
+    /// Memory ran out, or a name has too many handles.
+    OutOfMemory,
+}
+
+impl From<AllocError> for CopyError {
+    ghost use Rattle.std.specs.Prelude.{◌≡◌};
+    ghost use Rattle.published.specs.declared.error.CopyError.TheVariants.{OutOfMemory};
+
+    ghost from_gives = { λ _ e. e ≡ OutOfMemory };
+
+    fn from(_: AllocError) -> CopyError {
+        CopyError::OutOfMemory
+    }
+}

@@ -23,7 +23,7 @@ mod told;
 
 pub use counts::Counts;
 pub use desk::Desk;
-pub use error::{OpenError, PutError, PutErrorKind, RemoveError};
+pub use error::{CopyError, OpenError, PutError, PutErrorKind, RemoveError};
 pub use laws::faults_are_one;
 pub use opening::{MAX_COMMANDS, MAX_READINGS, open, open_with_places};
 pub use reading::Reading;

@@ -1,9 +1,10 @@
 //! The names of the documents after all accepted commands.
 
-ghost use Rattle.std.specs.Prelude.{◌≡◌, ℕ, List, Bool, false, not, ◌&&◌, ◌||◌, IfOk, OnErr, bytes_eq};
+ghost use Rattle.std.specs.Prelude.{◌≡◌, ℕ, List, [], ◌∷◌, ◌++◌, Bool, false, not, ◌&&◌, ◌||◌, true, length, nat_lt, IfOk, OnOk, OnErr, bytes_eq};
 ghost use Rattle.prefixes.specs.Under.{begins_with};
 ghost use Rattle.std.specs.List.{list_any};
-ghost use Rattle.published.specs.Private.Names.{has_name, has_name_under, names_under};
+ghost use Rattle.published.specs.Private.Names.{has_name, has_long_copy, has_name_under, is_one_of, names_under, new_copies};
+ghost use Rattle.index.specs.Documents.{renamed};
 
 use index::Name;
 use std::alloc::{AllocError, Global};
@@ -82,6 +83,75 @@ impl Names {
         Ok(found)
     }
 
+    /// Whether a name in the set that begins with `from` has more than `most` bytes with `to` in its place.
+    pub(crate) fn has_long_copy(&self, from: &Name, to: &Name, most: usize) -> bool
+        ensures { result ≡ has_long_copy self.now most from.now to.now }
+    {
+        for name in self.names.range((Bound::Included(from), Bound::Unbounded)) {
+            if !begins(name, from) {
+                return false;
+            }
+            if is_long_copy(name, from, to, most) {
+                return true;
+            }
+        }
+        false
+    }
+
+    /// The names that these get with `to` in place of `from`, but for those in the set. An `Err` means that memory ran out.
+    pub(crate) fn new_copies(
+        &self,
+        names: &[Name],
+        from: &Name,
+        to: &Name,
+    ) -> Result<Vec<Name>, AllocError>
+        ensures { IfOk result (λ copies. copies.items ≡ new_copies self.now from.now to.now names.now) }
+    {
+        let mut copies = Vec::new(self.alloc);
+        for at in 0..names.len() {
+            self.add_copy(&mut copies, &names[at], from, to)?;
+        }
+        Ok(copies)
+    }
+
+    /// Adds the name with `to` in place of `from` to the copies, unless it is in the set. An `Err` means that memory ran out.
+    fn add_copy(
+        &self,
+        copies: &mut Vec<Name>,
+        name: &Name,
+        from: &Name,
+        to: &Name,
+    ) -> Result<(), AllocError>
+        ensures { OnOk result (copies.new.items ≡ copies.old.items ++ new_copies self.now from.now to.now (name.now ∷ [])) }
+    {
+        let Some(copy) = name.with_beginning(self.alloc, from.as_bytes().len(), to) else {
+            return Err(AllocError);
+        };
+        if self.has(&copy) {
+            return Ok(());
+        }
+        copies.push(copy)?;
+        Ok(())
+    }
+
+    /// Adds these names, which are not in the set. An `Err` means that memory ran out, and changes nothing.
+    pub(crate) fn add_all(&mut self, names: &[Name]) -> Result<(), AllocError>
+        requires { (name : List ℕ) → is_one_of names.now name ≡ true → has_name self.old name ≡ false }
+        ensures ok { OnOk result ((other : List ℕ) → has_name self.new other ≡ (is_one_of names.now other || has_name self.old other)) }
+        ensures err { OnErr result ((other : List ℕ) → has_name self.new other ≡ has_name self.old other) }
+    {
+        for at in 0..names.len() {
+            match self.add(&names[at]) {
+                Ok(_) => {}
+                Err(error) => {
+                    self.remove_all(&names[..at]);
+                    return Err(error);
+                }
+            }
+        }
+        Ok(())
+    }
+
     /// Takes these names out of the set.
     pub(crate) fn remove_all(&mut self, names: &[Name])
         ensures { (other : List ℕ) → has_name self.new other ≡ (not (list_any (λ name. bytes_eq name other) names.now) && has_name self.old other) }
@@ -90,6 +160,14 @@ impl Names {
             self.remove(name);
         }
     }
+}
+
+/// Whether the name, which begins with `from`, has more than `most` bytes with `to` in its place.
+fn is_long_copy(name: &Name, from: &Name, to: &Name, most: usize) -> bool
+    ensures { result ≡ nat_lt most (length (renamed from.now to.now name.now)) }
+{
+    let rest = name.as_bytes().len().saturating_sub(from.as_bytes().len());
+    to.as_bytes().len() + rest > most
 }
 
 /// Whether the name begins with the prefix.

@@ -36,6 +36,8 @@ pub enum Update {
     Remove(Name),
     /// A remove of all names that begin with this prefix.
     RemoveUnder(Name),
+    /// A copy of all documents whose names begin with the first name, under names with the second one in its place.
+    CopyUnder(Name, Name),
 }
 
 /// What is done to both copies.
@@ -239,6 +241,7 @@ fn change(index: &mut Index, update: &Update, way: Way) -> Result<(), AllocError
             _ => index.remove(name),
         },
         Update::RemoveUnder(prefix) => index.remove_under(prefix),
+        Update::CopyUnder(from, to) => index.copy_under(from, to),
     }
 }
 

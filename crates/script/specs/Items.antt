@@ -16,6 +16,7 @@ pub data Item : Type 0 where
   load : (name path : List ℕ) → Item
   remove : (name : List ℕ) → Item
   remove_under : (prefix : List ℕ) → Item
+  copy_under : (from to : List ℕ) → Item
   publish : Item
   search : (case : Case) (pattern : List ℕ) → Item
   search_in : (case : Case) (name_pattern pattern : List ℕ) → Item
@@ -61,6 +62,11 @@ load_of name None = bad_line
 load_of name (Some []) = bad_line
 load_of name (Some (b ∷ path)) = load name (b ∷ path)
 
+-- a text up to the next space, and the rest
+abbrev pub copy_under_of : List ℕ → Option (List ℕ) → Item
+copy_under_of from None = bad_line
+copy_under_of from (Some to) = copy_under from to
+
 -- a name pattern up to the next space, and the rest
 abbrev pub search_in_of : Case → List ℕ → Option (List ℕ) → Item
 search_in_of case name_pattern None = bad_line
@@ -100,9 +106,10 @@ item_of_keyword_and_others keyword others =
     else (if is_keyword keyword (codes "find") then find others
     else (if is_keyword keyword (codes "remove") then remove others
     else (if is_keyword keyword (codes "removeunder") then remove_under others
+    else (if is_keyword keyword (codes "copyunder") then copy_under_of (fields_of others).first (fields_of others).others
     else (if is_keyword keyword (codes "load") then load_of (fields_of others).first (fields_of others).others
     else (if is_keyword keyword (codes "cancel") then cancel_of others
-    else bad_line))))))))
+    else bad_line)))))))))
 
 -- the item of a line with this keyword, and with what follows the space after it
 abbrev pub item_of : List ℕ → Option (List ℕ) → Item

@@ -1,6 +1,6 @@
 -- What one line of a script says by itself.
 use Rattle.std.specs.Prelude.{◌≡◌, ℕ, List, IsTrue, IsFalse, ⊤}
-use Rattle.script.specs.Items.{Item, load, remove, remove_under, publish, search, search_in, find, sync, cancel, status, bad_line}
+use Rattle.script.specs.Items.{Item, load, remove, remove_under, copy_under, publish, search, search_in, find, sync, cancel, status, bad_line}
 use Rattle.script.specs.Items.{is_blank, is_put, item_of_line, IsPutLine}
 use Rattle.script.specs.declared.item.Item as line_item
 use Rattle.script.specs.declared.item.Item.TheVariants as items
@@ -12,6 +12,7 @@ abbrev pub shown_item : line_item.Item → Item
 shown_item (items.Load name path) = load name.now path.now
 shown_item (items.Remove name) = remove name.now
 shown_item (items.RemoveUnder prefix) = remove_under prefix.now
+shown_item (items.CopyUnder from to) = copy_under from.now to.now
 shown_item items.Publish = publish
 shown_item (items.Search case pattern) = search case pattern.now
 shown_item (items.SearchIn case name_pattern pattern) = search_in case name_pattern.now pattern.now

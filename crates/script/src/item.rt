@@ -19,6 +19,11 @@ pub enum Item<'a> {
     RemoveUnder {
         prefix: &'a [u8],
     },
+    /// `copyunder FROM TO`.
+    CopyUnder {
+        from: &'a [u8],
+        to: &'a [u8],
+    },
     /// `publish`.
     Publish,
     /// `search ERE`, or `isearch ERE`, which ignores case. A line with only `search` or `isearch` has the

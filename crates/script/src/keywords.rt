@@ -2,7 +2,7 @@
 
 ghost use Rattle.std.specs.Prelude.{◌≡◌, option_map};
 ghost use Rattle.script.specs.Fields.{fields_of};
-ghost use Rattle.script.specs.Items.{item_of, item_of_keyword, item_of_keyword_and_others, load_of, cancel_of, search_in_of};
+ghost use Rattle.script.specs.Items.{item_of, item_of_keyword, item_of_keyword_and_others, load_of, cancel_of, copy_under_of, search_in_of};
 ghost use Rattle.script.specs.Line.{shown_item};
 
 use crate::cuts::{cut_at_space, search_number};
@@ -73,6 +73,8 @@ fn item_of_keyword_and_others<'a>(keyword: &[u8], others: &'a [u8]) -> Item<'a>
         Item::Remove { name: others }
     } else if keyword == b"removeunder".as_slice() {
         Item::RemoveUnder { prefix: others }
+    } else if keyword == b"copyunder".as_slice() {
+        copy_under(others)
     } else if keyword == b"load".as_slice() {
         load(others)
     } else if keyword == b"cancel".as_slice() {
@@ -92,6 +94,16 @@ fn search_in(case: Case, fields: &[u8]) -> Item<'_>
             name_pattern,
             pattern,
         },
+        (_, None) => Item::BadLine,
+    }
+}
+
+/// A `copyunder`, from what follows the space after its keyword.
+fn copy_under(fields: &[u8]) -> Item<'_>
+    ensures { shown_item result ≡ copy_under_of (fields_of fields.now).first (fields_of fields.now).others }
+{
+    match cut_at_space(fields) {
+        (from, Some(to)) => Item::CopyUnder { from, to },
         (_, None) => Item::BadLine,
     }
 }

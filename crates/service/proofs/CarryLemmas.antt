@@ -6,7 +6,7 @@ use Rattle.index.specs.Documents.{is_taken, has_under}
 use Rattle.index.specs.State.{State, state_of}
 use Rattle.index.specs.declared.command.Command.{Command}
 use Rattle.index.specs.declared.lengths.Lengths.{Lengths}
-use Rattle.index.specs.declared.command.Command.TheVariants.{Put, Remove, RemoveUnder}
+use Rattle.index.specs.declared.command.Command.TheVariants.{Put, Remove, RemoveUnder, CopyUnder}
 use Rattle.script.specs.Items.{Item}
 use Rattle.script.specs.Items as item
 use Rattle.published.specs.Desk.{DeskState}
@@ -16,7 +16,7 @@ use Rattle.transcript.specs.declared.entry.Entry.TheVariants.{Refused, Published
 use Rattle.transcript.specs.declared.entry.Reason.{Reason}
 use Rattle.transcript.specs.declared.entry.Reason.TheVariants as reason
 use Rattle.steps.specs.LegalRows.{IsNamed, bad_name, no_memory, named, IsRoomFor, full, accepted, IsPut, IsCommandEntry}
-use Rattle.steps.specs.LegalRows.{IsRemove, no_such_file, is_there}
+use Rattle.steps.specs.LegalRows.{IsRemove, no_such_file, is_there, IsCopy, none_to_copy, too_long, can_copy}
 use Rattle.steps.specs.LegalRows as legal
 use Rattle.steps.specs.Rows.{accepted_by, command_of, version_in, failures_in, searches_of, is_sync}
 use Rattle.service.specs.Private.Entries.{entry_of, published_entry_of, desk_after, IsLoaded}
@@ -61,6 +61,12 @@ no_failure_in_remove : (most : ℕ) (state : State) (found : Bool) (line : ℕ) 
     → failures_in (Some entry) ≡ 0
 no_failure_in_remove most state found line entry (no_such_file none is) = no_failure_at is refl
 no_failure_in_remove most state found line entry (is_there there room) = no_failure_in_room most state line entry room
+
+no_failure_in_copy : (longest most : ℕ) (state : State) (from to : List ℕ) (line : ℕ) (entry : Entry) → IsCopy longest most state from to line entry
+    → failures_in (Some entry) ≡ 0
+no_failure_in_copy longest most state from to line entry (none_to_copy none is) = no_failure_at is refl
+no_failure_in_copy longest most state from to line entry (too_long there long is) = no_failure_at is refl
+no_failure_in_copy longest most state from to line entry (can_copy there short room) = no_failure_in_room most state line entry room
 
 module _ (Holds : List ℕ → List ℕ → Type 0) (lengths : Lengths) (desk : DeskState) (told : Known) (failed line : ℕ) (done : Result ℕ Reason) (entry : Entry)
     (is : entry ≡ entry_of line done) where
@@ -140,6 +146,29 @@ module _ (Holds : List ℕ → List ℕ → Type 0) (lengths : Lengths) (desk : 
       → IsEntered Holds lengths desk told failed (item.numbered line (item.remove_under prefix)) entry desk' told failed
   carried_remove_under prefix desk' legal_is left =
       carried_removal (item.remove_under prefix) (RemoveUnder prefix) prefix _ refl refl refl desk' (λ entry' h. h) legal_is left
+
+  pub carried_copy_under : (from to : List ℕ) (desk' : DeskState)
+      → IsNamed lengths.name from line (entry_of line done)
+      (IsNamed lengths.name to line (entry_of line done) (IsCopy lengths.name desk.limit (state_of desk.accepted) from to line (entry_of line done)))
+      → desk' ≡ desk_after done (CopyUnder from to ∷ []) desk
+      → IsEntered Holds lengths desk told failed (item.numbered line (item.copy_under from to)) entry desk' told failed
+  carried_copy_under from to desk' legal_is left = rw (is, left) (record {
+    loaded = None;
+    legal = legal_is;
+    no_search = refl;
+    no_sync = refl;
+    no_search_entry = no_search_entry line done;
+    opening = (same_opening done (CopyUnder from to ∷ []) desk).0;
+    limit = (same_opening done (CopyUnder from to ∷ []) desk).1;
+    accepted = accepted_after line done (CopyUnder from to ∷ []) desk;
+    tells = nothing (no_version line done) refl;
+    published = λ h. same_published done (CopyUnder from to ∷ []) desk ∙ h;
+    counted =
+        counted_same (entry_of line done) failed
+        (no_failure_named lengths.name from line _ _
+        (no_failure_named lengths.name to line _ _
+        (no_failure_in_copy lengths.name desk.limit (state_of desk.accepted) from to line (entry_of line done))) legal_is);
+  })
 
 -- publishes, and lines that are not valid items
 module _ (Holds : List ℕ → List ℕ → Type 0) (lengths : Lengths) (desk : DeskState) (told : Known) (failed line : ℕ) (entry : Entry) where

@@ -93,6 +93,7 @@ one_search (item.put name body) = omega arith
 one_search (item.load name path) = omega arith
 one_search (item.remove name) = omega arith
 one_search (item.remove_under prefix) = omega arith
+one_search (item.copy_under from to) = omega arith
 one_search item.publish = omega arith
 one_search (item.search case text) = omega arith
 one_search (item.search_in case name_text text) = omega arith

@@ -8,7 +8,9 @@ use Rattle.ere.specs.declared.case.Case.{Case}
 use Rattle.ere.specs.declared.case.Case.TheVariants.{Exact}
 use Rattle.index.specs.State.{State, state_of}
 use Rattle.index.specs.declared.command.Command.{Command}
-use Rattle.published.specs.Desk.{DeskState, HasRoom, IsRemoveFault, with_command}
+use Rattle.published.specs.Desk.{DeskState, HasRoom, IsRemoveFault, IsCopyFault, has_document_under, has_document_too_long, with_command}
+use Rattle.published.specs.declared.error.CopyError.{CopyError}
+use Rattle.published.specs.declared.error.CopyError.TheVariants as copy_error
 use Rattle.published.specs.declared.error.RemoveError.{RemoveError}
 use Rattle.published.specs.declared.error.RemoveError.TheVariants as remove_error
 use Rattle.std.proofs.lemmas.List.{length-append}
@@ -18,14 +20,14 @@ use Rattle.index.specs.declared.error.NameError.TheVariants as name
 use Rattle.index.specs.declared.error.BodyErrorKind.TheVariants as body
 use Rattle.std.proofs.Common.{length}
 use Rattle.steps.specs.Rows.{failures_in}
-use Rattle.index.specs.Text.{most_bytes, IsNameOf, IsNameFault, IsBodyFault}
+use Rattle.index.specs.Text.{most_bytes, most_name_bytes, IsNameOf, IsNameFault, IsBodyFault}
 use Rattle.prepare.specs.Pattern.{HasTree, IsTreeFault}
 use Rattle.transcript.specs.declared.entry.Entry.{Entry}
 use Rattle.transcript.specs.declared.entry.Entry.TheVariants.{Accepted, Refused}
 use Rattle.transcript.specs.declared.entry.Reason.{Reason}
 use Rattle.transcript.specs.declared.entry.Reason.TheVariants as reason
 use Rattle.transcript.specs.declared.entry.SearchReason.TheVariants as search_reason
-use Rattle.steps.specs.LegalRows.{IsNamed, bad_name, no_memory, named, bad_body, with_body, full, accepted, IsPut, IsRemove, no_such_file, is_there, HasLoaded, loaded_body}
+use Rattle.steps.specs.LegalRows.{IsNamed, bad_name, no_memory, named, bad_body, with_body, full, accepted, IsPut, IsRemove, no_such_file, is_there, IsCopy, none_to_copy, too_long, can_copy, HasLoaded, loaded_body}
 use Rattle.request.specs.Faults.{IsFirstFault}
 use Rattle.request.specs.Find.{IsFindOf, Options}
 use Rattle.request.specs.declared.fault.FindFault.{FindFault}
@@ -36,7 +38,7 @@ use Rattle.transcript.specs.declared.entry.SearchReason.{SearchReason}
 use Rattle.steps.specs.Asked.{IsFaultOfSearch, IsFaultOfSearchIn, IsFaultOfFind}
 use Rattle.steps.specs.Asked as asked
 use Rattle.service.specs.Private.Entries as entries
-use Rattle.service.specs.Private.Entries.{IsReasonOfWords, reason_of_find, reason_of_find_of, reason_of_name, reason_of_remove, reason_of_fault, reason_of_fault_of, HasBodyOrNoMemory, IsRemoveOrNoMemory}
+use Rattle.service.specs.Private.Entries.{IsReasonOfWords, reason_of_find, reason_of_find_of, reason_of_name, reason_of_remove, reason_of_copy, reason_of_fault, reason_of_fault_of, HasBodyOrNoMemory, IsRemoveOrNoMemory, IsCopyOrNoMemory}
 use Rattle.service.specs.Service.{IsCounted}
 
 pub named_fault : (longest : ℕ) (error : NameError) (bytes : List ℕ) (line : ℕ) (entry : Entry) (Else : Type 0) → IsNameFault longest error bytes
@@ -56,6 +58,29 @@ pub named_removed : (longest most : ℕ) (state : State) (bytes : List ℕ) (fou
     → IsRemoveOrNoMemory most state found line entry → IsNamed longest bytes line entry (IsRemove most state found line entry)
 named_removed longest most state bytes found line entry is (inl removed) = named is removed
 named_removed longest most state bytes found line entry is (inr ran_out) = no_memory is ran_out.1
+
+pub named_copied : (longest most : ℕ) (state : State) (from to : List ℕ) (line : ℕ) (entry : Entry) → IsNameOf longest from → IsNameOf longest to
+    → IsCopyOrNoMemory longest most state from to line entry
+    → IsNamed longest from line entry (IsNamed longest to line entry (IsCopy longest most state from to line entry))
+named_copied longest most state from to line entry is_from is_to (inl copied) = named is_from (named is_to copied)
+named_copied longest most state from to line entry is_from is_to (inr ran_out) = no_memory is_from ran_out
+
+-- a copy that the desk refuses, and one that it accepts
+pub refused_copy : (longest : ℕ) (desk : DeskState) (from to : List ℕ) (error : CopyError) (why : Reason) (line : ℕ)
+    → IsCopyFault error (has_document_under desk.accepted from) (has_document_too_long desk.accepted (most_name_bytes longest) from to) desk
+    → why ≡ reason_of_copy error → IsCopyOrNoMemory longest desk.limit (state_of desk.accepted) from to line (Refused line why)
+refused_copy longest desk from to copy_error.NoSuchFile why line fault is = inl (none_to_copy fault (ap (Refused line) is))
+refused_copy longest desk from to copy_error.TooLong why line fault is = inl (too_long fault.0 fault.1 (ap (Refused line) is))
+refused_copy longest desk from to copy_error.Full why line fault is = inl (can_copy fault.0 fault.1 (full fault.2 (ap (Refused line) is)))
+refused_copy longest desk from to copy_error.OutOfMemory why line fault is = inr (ap (Refused line) is)
+
+pub accepted_copy : (longest : ℕ) (desk desk' : DeskState) (command : Command) (from to : List ℕ) (count line : ℕ)
+    → has_document_under desk.accepted from ≡ true → has_document_too_long desk.accepted (most_name_bytes longest) from to ≡ false
+    → desk' ≡ with_command command desk → HasRoom desk → count ≡ length desk'.accepted
+    → IsCopyOrNoMemory longest desk.limit (state_of desk.accepted) from to line (Accepted line count)
+accepted_copy longest desk desk' command from to count line there short left room is =
+    inl (can_copy there short (accepted room
+    (ap (Accepted line) (is ∙ (ap (λ d. length d.accepted) left ∙ length-append desk.accepted (command ∷ []))))))
 
 -- a remove that the desk refuses, and one that it accepts
 pub refused_remove : (desk : DeskState) (found : Bool) (error : RemoveError) (why : Reason) (line : ℕ) → IsRemoveFault error found desk

@@ -1,7 +1,7 @@
 //! The items of a script, carried out.
 
 ghost use Rattle.std.specs.Prelude.{◌≡◌, ℕ, ◌+◌, ◌<◌, ◌^◌, ◌≤◌, List, [], ◌∷◌, length, IfOk, IfErr};
-ghost use Rattle.index.specs.declared.command.Command.TheVariants.{Put as put_command, Remove as remove_command, RemoveUnder as remove_under_command};
+ghost use Rattle.index.specs.declared.command.Command.TheVariants.{Put as put_command, Remove as remove_command, RemoveUnder as remove_under_command, CopyUnder as copy_under_command};
 ghost use Rattle.index.specs.Documents.{is_taken, has_under};
 ghost use Rattle.index.specs.State.{State, state_of};
 ghost use Rattle.index.specs.Text.{most_bytes};
@@ -11,15 +11,15 @@ ghost use Rattle.script.specs.Items.{Item, numbered};
 ghost use Rattle.transcript.specs.declared.entry.Entry.TheVariants.{Refused as refused_entry};
 ghost use Rattle.published.specs.Desk.{DeskState, IsPutFault};
 ghost use Rattle.published.specs.History.{known};
-ghost use Rattle.steps.specs.LegalRows.{IsPut, IsNamed, IsRemove};
-ghost use Rattle.service.specs.Private.Entries.{reason_of_name, reason_of_remove, entry_of, published_entry_of, desk_after, HasBodyOrNoMemory, IsRemoveOrNoMemory, IsLoaded};
+ghost use Rattle.steps.specs.LegalRows.{IsPut, IsNamed, IsRemove, IsCopy};
+ghost use Rattle.service.specs.Private.Entries.{reason_of_name, reason_of_remove, reason_of_copy, entry_of, published_entry_of, desk_after, HasBodyOrNoMemory, IsRemoveOrNoMemory, IsCopyOrNoMemory, IsLoaded};
 ghost use Rattle.service.specs.Private.Items.{IsCarriedOut};
 
 use crate::question::{Question, Texts};
 use crate::source::{Fault, Source};
 use index::{Body, BodyErrorKind, Lengths, Name, NameError};
 use input::{OwnedItem, ReadItem};
-use published::{Desk, PutErrorKind, RemoveError, Told};
+use published::{CopyError, Desk, PutErrorKind, RemoveError, Told};
 use std::alloc::Global;
 use std::sync::Wait;
 use std::thread::Threads;
@@ -186,6 +186,52 @@ fn remove_under_name(desk: &mut Desk, prefix: &Name) -> Result<u32, Reason>
     }
 }
 
+/// Why a copy is refused.
+fn reason_of_copy(error: CopyError) -> Reason
+    ensures { result ≡ reason_of_copy error }
+{
+    match error {
+        CopyError::NoSuchFile => Reason::NoSuchFile,
+        CopyError::TooLong => Reason::Name(NameError::TooLong),
+        CopyError::Full => Reason::Full,
+        CopyError::OutOfMemory => Reason::OutOfMemory,
+    }
+}
+
+/// Puts each document whose name begins with `from` under the name with `to` in its place. Both must be names of at most `longest` bytes,
+/// and so must all that come of it.
+fn copy_under(
+    alloc: Global,
+    desk: &mut Desk,
+    longest: usize,
+    from: &[u8],
+    to: &[u8],
+) -> Result<u32, Reason>
+    ensures entry { (line : ℕ) → IsNamed longest from.now line (entry_of line result)
+        (IsNamed longest to.now line (entry_of line result) (IsCopy longest desk.old.limit (state_of desk.old.accepted) from.now to.now line (entry_of line result))) }
+    ensures desk { desk.new ≡ desk_after result (copy_under_command from.now to.now ∷ []) desk.old }
+{
+    let from = match Name::within(alloc, from, longest) {
+        Ok(from) => from,
+        Err(error) => return Err(reason_of_name(error)),
+    };
+    match Name::within(alloc, to, longest) {
+        Ok(to) => copy_under_name(desk, longest, &from, &to),
+        Err(error) => Err(reason_of_name(error)),
+    }
+}
+
+/// Puts each document whose name begins with `from` under the name with `to` in its place.
+fn copy_under_name(desk: &mut Desk, longest: usize, from: &Name, to: &Name) -> Result<u32, Reason>
+    ensures entry { (line : ℕ) → IsCopyOrNoMemory longest desk.old.limit (state_of desk.old.accepted) from.now to.now line (entry_of line result) }
+    ensures desk { desk.new ≡ desk_after result (copy_under_command from.now to.now ∷ []) desk.old }
+{
+    match desk.copy_under(from, to, longest) {
+        Ok(commands) => Ok(commands),
+        Err(error) => Err(reason_of_copy(error)),
+    }
+}
+
 /// The entry of a command.
 fn entry_of(line: u32, done: Result<u32, Reason>) -> Entry
     ensures { result ≡ entry_of line done }
@@ -278,6 +324,10 @@ pub fn carry_out<R: Threads + Wait + Sync, S: Source>(
         OwnedItem::RemoveUnder { prefix } => Outcome::Entry(entry_of(
             line,
             remove_under(alloc, desk, lengths.name, &prefix),
+        )),
+        OwnedItem::CopyUnder { from, to } => Outcome::Entry(entry_of(
+            line,
+            copy_under(alloc, desk, lengths.name, &from, &to),
         )),
         OwnedItem::Publish => Outcome::Entry(publish_entry(line, publish(rt, desk, told))),
         OwnedItem::Search { case, pattern } => {

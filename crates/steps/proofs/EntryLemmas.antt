@@ -1,9 +1,10 @@
 -- What the entries of items can be, and that they are legal.
 use Rattle.std.proofs.Common.{◌≡◌, ℕ, ◌+◌, ◌≤◌, Bool, true, false, List, [], Option, Some, None, refl, sym, ap, subst, arith}
 use Rattle.index.specs.State.{State}
+use Rattle.index.specs.declared.error.NameError.TheVariants as name_error
 use Rattle.index.specs.declared.lengths.Lengths.{Lengths}
 use Rattle.prepare.specs.Request.{Request}
-use Rattle.script.specs.Items.{Item, put, load, remove, remove_under, publish, search, search_in, find, sync, cancel, status, bad_line, bad_put, truncated, body_not_closed}
+use Rattle.script.specs.Items.{Item, put, load, remove, remove_under, copy_under, publish, search, search_in, find, sync, cancel, status, bad_line, bad_put, truncated, body_not_closed}
 use Rattle.transcript.specs.declared.entry.Entry.{Entry}
 use Rattle.transcript.specs.declared.entry.Entry.TheVariants.{Accepted, Refused, Published, Found, SearchRefused}
 use Rattle.transcript.specs.declared.entry.Reason.{Reason}
@@ -11,7 +12,7 @@ use Rattle.transcript.specs.declared.entry.Reason.TheVariants as reason
 use Rattle.transcript.specs.declared.entry.SearchReason.{SearchReason}
 use Rattle.transcript.specs.declared.entry.SearchReason.TheVariants as search_reason
 use Rattle.steps.specs.Rows.{version_in, last_or, is_sync, searches_of, count_searches}
-use Rattle.steps.specs.LegalRows.{IsRoomFor, IsNamed, HasBody, HasLoaded, IsRemove, IsPublish, Limits, Context, search_number, state_before}
+use Rattle.steps.specs.LegalRows.{IsRoomFor, IsNamed, HasBody, HasLoaded, IsRemove, IsCopy, IsPublish, Limits, Context, search_number, state_before}
 use Rattle.steps.specs.LegalRows.{IsSearched, IsUnknown, IsStatus, IsCommandEntry, IsEntryOf, HasEntry}
 use Rattle.steps.specs.LegalRows as legal
 use Rattle.steps.specs.Asked.{Asks, IsFaultOf}
@@ -49,6 +50,11 @@ module _ (lengths : Lengths) (most : ℕ) (state : State) (line : ℕ) (item : I
   plain_remove found (legal.no_such_file none is) = refuses reason.NoSuchFile is (λ e. cc)
   plain_remove found (legal.is_there some room) = plain_room room
 
+  plain_copy : (from to : List ℕ) → IsCopy lengths.name most state from to line entry → IsPlain state.version line item entry
+  plain_copy from to (legal.none_to_copy none is) = refuses reason.NoSuchFile is (λ e. cc)
+  plain_copy from to (legal.too_long some long is) = refuses (reason.Name name_error.TooLong) is (λ e. cc)
+  plain_copy from to (legal.can_copy some short room) = plain_room room
+
   plain_publish : takes_memory item ≡ true → IsPublish state line entry → IsPlain state.version line item entry
   plain_publish takes (legal.published is) = publishes is
   plain_publish takes (legal.no_memory is) = refuses reason.OutOfMemory is (λ e. takes)
@@ -63,6 +69,9 @@ plain_entry Holds lengths most state loaded line (remove name) entry h =
     plain_named lengths most state line (remove name) entry name _ refl (plain_remove lengths most state line (remove name) entry _) h
 plain_entry Holds lengths most state loaded line (remove_under prefix) entry h =
     plain_named lengths most state line (remove_under prefix) entry prefix _ refl (plain_remove lengths most state line (remove_under prefix) entry _) h
+plain_entry Holds lengths most state loaded line (copy_under from to) entry h =
+    plain_named lengths most state line (copy_under from to) entry from _ refl
+    (plain_named lengths most state line (copy_under from to) entry to _ refl (plain_copy lengths most state line (copy_under from to) entry from to)) h
 plain_entry Holds lengths most state loaded line publish entry h = plain_publish lengths most state line publish entry refl h
 plain_entry Holds lengths most state loaded line (search case text) entry h = absurd h
 plain_entry Holds lengths most state loaded line (search_in case name_text text) entry h = absurd h

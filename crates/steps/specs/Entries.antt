@@ -1,7 +1,7 @@
 -- What entries say, in the order of writing.
 use Rattle.std.specs.Prelude.{◌≡◌, ℕ, ◌<◌, ◌≤◌, ◌⊎◌, ◌==◌, Bool, true, false, count_by, sum_by, List, [], ◌∷◌, ◌++◌, flat_map, Some, Contains}
 use Rattle.views.specs.Shown.{Shown}
-use Rattle.script.specs.Items.{Item, Numbered, put, load, remove, remove_under, publish, search, search_in, find, sync, cancel}
+use Rattle.script.specs.Items.{Item, Numbered, put, load, remove, remove_under, copy_under, publish, search, search_in, find, sync, cancel}
 use Rattle.transcript.specs.declared.entry.Entry.{Entry}
 use Rattle.transcript.specs.declared.entry.Entry.TheVariants.{Accepted, Refused, Published, Found, SearchRefused, Status}
 use Rattle.steps.specs.Rows.{version_in, failures_in, searches_of}
@@ -78,6 +78,7 @@ takes_memory (put name body) = true
 takes_memory (load name path) = true
 takes_memory (remove name) = true
 takes_memory (remove_under prefix) = true
+takes_memory (copy_under from to) = true
 takes_memory publish = true
 takes_memory item = false
 

@@ -7,13 +7,13 @@ use Rattle.index.specs.declared.error.NameError.TheVariants as name_error
 use Rattle.index.specs.declared.error.BodyErrorKind.{BodyErrorKind}
 use Rattle.index.specs.declared.command.Command.{Command}
 use Rattle.index.specs.declared.lengths.Lengths.{Lengths}
-use Rattle.index.specs.Documents.{Documents, is_taken, has_under}
+use Rattle.index.specs.Documents.{Documents, is_taken, has_under, has_long_copy}
 use Rattle.index.specs.State.{State, state_of, body_bytes}
-use Rattle.index.specs.Text.{IsNameOf, IsNameFault, IsBodyOf, IsBodyFault}
+use Rattle.index.specs.Text.{IsNameOf, IsNameFault, most_name_bytes, IsBodyOf, IsBodyFault}
 use Rattle.prepare.specs.Request.{Request}
 use Rattle.search.specs.Shown.{IsShownOf}
 use Rattle.views.specs.Shown.{Shown}
-use Rattle.script.specs.Items.{Item, put, load, remove, remove_under, publish, search, search_in, find, sync, cancel, status, bad_line, bad_put, truncated, body_not_closed}
+use Rattle.script.specs.Items.{Item, put, load, remove, remove_under, copy_under, publish, search, search_in, find, sync, cancel, status, bad_line, bad_put, truncated, body_not_closed}
 use Rattle.transcript.specs.declared.entry.Entry.{Entry}
 use Rattle.transcript.specs.declared.entry.Entry.TheVariants.{Accepted, Refused, Published, Found, SearchRefused, Status}
 use Rattle.transcript.specs.declared.entry.Reason.TheVariants as reason
@@ -62,6 +62,14 @@ pub data HasLoaded (Holds : List ℕ → List ℕ → Type 0) (lengths : Lengths
 pub data IsRemove (most : ℕ) (state : State) (found : Bool) (line : ℕ) (entry : Entry) : Type 0 where
   no_such_file : found ≡ false → entry ≡ Refused line reason.NoSuchFile → IsRemove most state found line entry
   is_there : found ≡ true → IsRoomFor most state line entry → IsRemove most state found line entry
+
+-- A copy needs a document to be copied, and no name may become too long. longest: how long a name may be.
+pub data IsCopy (longest most : ℕ) (state : State) (from to : List ℕ) (line : ℕ) (entry : Entry) : Type 0 where
+  none_to_copy : has_under from state.documents ≡ false → entry ≡ Refused line reason.NoSuchFile → IsCopy longest most state from to line entry
+  too_long : has_under from state.documents ≡ true → has_long_copy (most_name_bytes longest) from to state.documents ≡ true
+      → entry ≡ Refused line (reason.Name name_error.TooLong) → IsCopy longest most state from to line entry
+  can_copy : has_under from state.documents ≡ true → has_long_copy (most_name_bytes longest) from to state.documents ≡ false
+      → IsRoomFor most state line entry → IsCopy longest most state from to line entry
 
 -- What the entry of a publish may be: the version of the commands accepted so far, or the refusal for memory.
 pub data IsPublish (state : State) (line : ℕ) (entry : Entry) : Type 0 where
@@ -164,6 +172,8 @@ IsCommandEntry Holds lengths most state loaded line (put name body) entry = IsPu
 IsCommandEntry Holds lengths most state loaded line (load name path) entry = IsNamed lengths.name name line entry (HasLoaded Holds lengths most state path loaded line entry)
 IsCommandEntry Holds lengths most state loaded line (remove name) entry = IsNamed lengths.name name line entry (IsRemove most state (is_taken name state.documents) line entry)
 IsCommandEntry Holds lengths most state loaded line (remove_under prefix) entry = IsNamed lengths.name prefix line entry (IsRemove most state (has_under prefix state.documents) line entry)
+IsCommandEntry Holds lengths most state loaded line (copy_under from to) entry =
+    IsNamed lengths.name from line entry (IsNamed lengths.name to line entry (IsCopy lengths.name most state from to line entry))
 IsCommandEntry Holds lengths most state loaded line publish entry = IsPublish state line entry
 IsCommandEntry Holds lengths most state loaded line (search case text) entry = ⊥
 IsCommandEntry Holds lengths most state loaded line (search_in case name_text text) entry = ⊥

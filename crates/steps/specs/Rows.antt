@@ -1,8 +1,8 @@
 -- A run of a script as rows: each item with its entry and, if it is a load, what the source answered.
 use Rattle.std.specs.Prelude.{ℕ, ◌+◌, Bool, true, false, option_map, if◌then◌else◌, List, [], ◌∷◌, ◌++◌, map, flat_map, Option, Some, None}
 use Rattle.index.specs.declared.command.Command.{Command}
-use Rattle.index.specs.declared.command.Command.TheVariants.{Put, Remove, RemoveUnder}
-use Rattle.script.specs.Items.{Item, Numbered, put, load, remove, remove_under, search, search_in, find, sync}
+use Rattle.index.specs.declared.command.Command.TheVariants.{Put, Remove, RemoveUnder, CopyUnder}
+use Rattle.script.specs.Items.{Item, Numbered, put, load, remove, remove_under, copy_under, search, search_in, find, sync}
 use Rattle.transcript.specs.declared.entry.Entry.{Entry}
 use Rattle.transcript.specs.declared.entry.Reason.TheVariants.{CannotLoad}
 use Rattle.transcript.specs.declared.entry.Entry.TheVariants.{Accepted, Refused, Published}
@@ -34,6 +34,7 @@ command_of (load name path) None = []
 command_of (load name path) (Some body) = Put name body ∷ []
 command_of (remove name) loaded = Remove name ∷ []
 command_of (remove_under prefix) loaded = RemoveUnder prefix ∷ []
+command_of (copy_under from to) loaded = CopyUnder from to ∷ []
 command_of _ loaded = []
 
 -- the command, if the entry accepts it

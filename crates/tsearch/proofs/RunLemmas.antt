@@ -98,6 +98,7 @@ no_sync_shown (owned.SkippedPut name size) i other shows = ap is_sync shows.1
 no_sync_shown (owned.Load name path) i other shows = ap is_sync shows
 no_sync_shown (owned.Remove name) i other shows = ap is_sync shows
 no_sync_shown (owned.RemoveUnder prefix) i other shows = ap is_sync shows
+no_sync_shown (owned.CopyUnder from to) i other shows = ap is_sync shows
 no_sync_shown owned.Publish i other shows = ap is_sync shows
 no_sync_shown (owned.Search case pattern) i other shows = ap is_sync shows
 no_sync_shown (owned.SearchIn case name_pattern pattern) i other shows = ap is_sync shows

@@ -55,6 +55,6 @@ pub record IsIndex (version : ℕ) (numbers : BTreeMap (List ℕ) ℕ) (groups :
   pub names : (number : ℕ) (name : List ℕ) → has_name groups (stored store) number name ≡ is_number number (get (slice_cmp nat_cmp) numbers name)
   pub ordered : IsOrdered (slice_cmp nat_cmp) numbers
   pub good : (name : List ℕ) → IsSome (get (slice_cmp nat_cmp) numbers name) → IsName name
-  pub fewer : btree_map_len numbers ≤ version
+  pub fewer : btree_map_len numbers < 2 ^ 32
   pub bytes : held_bytes ≡ body_bytes (plain_documents (named numbers (stored store)))
   pub few : version < 2 ^ 32

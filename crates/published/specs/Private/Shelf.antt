@@ -1,7 +1,7 @@
 -- What operations do to a shelf.
 use Rattle.std.specs.Prelude.{List, [], ◌∷◌}
 use Rattle.index.specs.declared.command.Command.{Command}
-use Rattle.index.specs.declared.command.Command.TheVariants.{Put, Remove, RemoveUnder}
+use Rattle.index.specs.declared.command.Command.TheVariants.{Put, Remove, RemoveUnder, CopyUnder}
 use Rattle.index.specs.State.{applied}
 use Rattle.published.specs.declared.shelf.Update.{Update}
 use Rattle.published.specs.declared.shelf.Update.TheVariants as update
@@ -13,6 +13,7 @@ abbrev pub command_of : Update → Command
 command_of (update.Put name held) = Put name held
 command_of (update.Remove name) = Remove name
 command_of (update.RemoveUnder prefix) = RemoveUnder prefix
+command_of (update.CopyUnder from to) = CopyUnder from to
 
 -- the shelf after an operation
 abbrev pub operated : Shelf → Operation → Shelf

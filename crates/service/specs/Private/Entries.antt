@@ -17,6 +17,8 @@ use Rattle.request.specs.declared.fault.FindFault.TheVariants as find_fault
 use Rattle.prepare.specs.declared.requested.FindError.{FindError}
 use Rattle.script.specs.Items.{load}
 use Rattle.published.specs.Desk.{DeskState}
+use Rattle.published.specs.declared.error.CopyError.{CopyError}
+use Rattle.published.specs.declared.error.CopyError.TheVariants as copy_error
 use Rattle.published.specs.declared.error.RemoveError.{RemoveError}
 use Rattle.published.specs.declared.error.RemoveError.TheVariants as remove_error
 use Rattle.transcript.specs.declared.entry.Entry.{Entry}
@@ -25,7 +27,7 @@ use Rattle.transcript.specs.declared.entry.Reason.{Reason}
 use Rattle.transcript.specs.declared.entry.Reason.TheVariants as reason
 use Rattle.transcript.specs.declared.entry.SearchReason.{SearchReason}
 use Rattle.transcript.specs.declared.entry.SearchReason.TheVariants as search_reason
-use Rattle.steps.specs.LegalRows.{HasBody, IsRemove, IsNamed, HasLoaded}
+use Rattle.steps.specs.LegalRows.{HasBody, IsRemove, IsCopy, IsNamed, HasLoaded}
 use Rattle.steps.specs.Rows.{command_of, failures_in}
 use Rattle.service.specs.Service.{IsCounted}
 
@@ -37,6 +39,12 @@ abbrev pub reason_of_remove : RemoveError → Reason
 reason_of_remove remove_error.NoSuchFile = reason.NoSuchFile
 reason_of_remove remove_error.Full = reason.Full
 reason_of_remove remove_error.OutOfMemory = reason.OutOfMemory
+
+abbrev pub reason_of_copy : CopyError → Reason
+reason_of_copy copy_error.NoSuchFile = reason.NoSuchFile
+reason_of_copy copy_error.TooLong = reason.Name name.TooLong
+reason_of_copy copy_error.Full = reason.Full
+reason_of_copy copy_error.OutOfMemory = reason.OutOfMemory
 
 abbrev pub reason_of_fault_of : Bool → EreErrorKind → EreError → SearchReason
 reason_of_fault_of in_name kind.OutOfMemory error = search_reason.OutOfMemory
@@ -86,6 +94,10 @@ HasBodyOrNoMemory lengths most state body line entry =
 -- A remove needs a document to be removed, and then room. If there is room, memory can run out.
 abbrev pub IsRemoveOrNoMemory : ℕ → State → Bool → ℕ → Entry → Type 0
 IsRemoveOrNoMemory most state found line entry = IsRemove most state found line entry ⊎ ((state.version < most) × RanOut line entry)
+
+-- A copy needs a document to be copied, names that are not too long, and then room. Memory can run out.
+abbrev pub IsCopyOrNoMemory : ℕ → ℕ → State → List ℕ → List ℕ → ℕ → Entry → Type 0
+IsCopyOrNoMemory longest most state from to line entry = IsCopy longest most state from to line entry ⊎ RanOut line entry
 
 -- A load: the source is asked once, unless the load is refused at its name, and failed exactly if the entry says so.
 pub record IsLoaded (Holds : List ℕ → List ℕ → Type 0) (lengths : Lengths) (desk : DeskState) (failed : ℕ) (name path : List ℕ)

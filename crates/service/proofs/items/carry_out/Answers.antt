@@ -1,7 +1,7 @@
 use Rattle.std.proofs.Common.{Err, refl}
 use Rattle.script.specs.Items as item
 use Rattle.transcript.specs.declared.entry.Reason.TheVariants as reason
-use Rattle.service.proofs.CarryLemmas.{carried_put, carried_load, carried_remove, carried_remove_under, carried_publish, carried_refused}
+use Rattle.service.proofs.CarryLemmas.{carried_put, carried_load, carried_remove, carried_remove_under, carried_copy_under, carried_publish, carried_refused}
 use Rattle.service.proofs.items.carry_out.Goals as goal
 
 pub returns-in-Put-clause-done : goal.returns-in-Put-clause-done
@@ -37,6 +37,13 @@ returns-in-RemoveUnder-clause-done g c = λ shown shows.
     rw (is, ← c.deref-in-RemoveUnder.ensures.value)
     (carried_remove_under _ c.args.lengths c.args.desk.now c.args.told.now _ c.args.read.line c.remove_under.result _
     c.entry_of-in-RemoveUnder.ensures _ _ (c.remove_under.ensures.entry c.args.read.line) c.remove_under.ensures.desk)
+
+pub returns-in-CopyUnder-clause-done : goal.returns-in-CopyUnder-clause-done
+returns-in-CopyUnder-clause-done g c = λ shown shows.
+    let is = rw c.in-CopyUnder.is at shows in
+    rw (is, ← c.deref-in-CopyUnder.ensures.value, ← c.deref-in-CopyUnder-2.ensures.value)
+    (carried_copy_under _ c.args.lengths c.args.desk.now c.args.told.now _ c.args.read.line c.copy_under.result _
+    c.entry_of-in-CopyUnder.ensures _ _ _ (c.copy_under.ensures.entry c.args.read.line) c.copy_under.ensures.desk)
 
 pub returns-in-Publish-clause-done : goal.returns-in-Publish-clause-done
 returns-in-Publish-clause-done g c = λ shown shows.

@@ -9,8 +9,8 @@ use Rattle.index.specs.Private.Slots.{documents_in}
 use Rattle.index.proofs.NamedLemmas.{numbered-none, numbered-group, numbered-single}
 use Rattle.index.proofs.catalog.Catalog.add_if_under.Goals as goal
 
-pub returns-in_default : goal.returns-in_default
-returns-in_default c =
+pub returns-in_default-clause-documents : goal.returns-in_default-clause-documents
+returns-in_default-clause-documents g c =
     let number = c.args.number in
     let old = documents_shared c.args.shared.now.items in
     let at = sym (c.in_default.ensures ∙ ap (λ s. document_at number (documents_in s)) c.deref.ensures.value) in
@@ -18,8 +18,8 @@ returns-in_default c =
     ∙ ap (λ ds. old ++ filter (is_under_any c.args.prefixes.now) ds)
     (sym (numbered-none c.self.invariant number at) ∙ ap (λ s. document_numbered s.documents number) c.self.view_is)
 
-pub returns-in-Some-get : goal.returns-in-Some-get
-returns-in-Some-get c =
+pub returns-in-Some-get-clause-documents : goal.returns-in-Some-get-clause-documents
+returns-in-Some-get-clause-documents g c =
     let number = c.args.number in
     let old = documents_shared c.args.shared.now.items in
     let at = c.in-Some.ensures ∙ ap (λ s. document_at number (documents_in s)) c.deref.ensures.value in
@@ -29,16 +29,14 @@ returns-in-Some-get c =
     ∙ ap (λ ds. old ++ filter (is_under_any c.args.prefixes.now) ds)
     (ap (λ o. map (λ q. document number q (body_of o)) names.keys) at
     ∙ (sym (numbered-group c.self.invariant number names (sym c.in-Some-get.ensures.value)) ∙ ap (λ s. document_numbered s.documents number) c.self.view_is)))
-    c.add_named.ensures
+    c.add_named.ensures.documents
 
-pub returns-in-None : goal.returns-in-None
-returns-in-None c =
+pub returns-in_ok-add_one-in-None-clause-documents : goal.returns-in_ok-add_one-in-None-clause-documents
+returns-in_ok-add_one-in-None-clause-documents g c =
     let number = c.args.number in
     let old = documents_shared c.args.shared.now.items in
     let occupant = c.in-Some.occupant.now in
     let at = sym (c.in-Some.ensures ∙ ap (λ s. document_at number (documents_in s)) c.deref.ensures.value) in
-    on_ok_weaker c.add_one.result
-    (λ e. e
+    c.in_ok-add_one-in-None.ensures
     ∙ ap (λ ds. old ++ filter (is_under_any c.args.prefixes.now) ds)
-    (sym (numbered-single c.self.invariant number (occupant.name, occupant.held) (sym c.in-None.ensures.value) at) ∙ ap (λ s. document_numbered s.documents number) c.self.view_is))
-    c.add_one.ensures
+    (sym (numbered-single c.self.invariant number (occupant.name, occupant.held) (sym c.in-None.ensures.value) at) ∙ ap (λ s. document_numbered s.documents number) c.self.view_is)

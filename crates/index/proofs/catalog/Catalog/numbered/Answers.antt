@@ -18,7 +18,7 @@ loop-number-preserved g c =
     let under = is_under_any c.args.prefixes.now in
     numbered-more under ds (documents_shared c.loop-number.shared.items) (documents_shared c.add_if_under.new.shared.items)
     (filter under (documents_numbered ds c.args.chosen.now.members)) c.loop-number.number-iterator c.next.new.self c.in-Some.number
-    c.in-Some.ensures.steps c.in_ok-add_if_under.ensures c.loop-number.invariant
+    c.in-Some.ensures.steps c.in_ok-add_if_under.ensures.documents c.loop-number.invariant
 
 pub returns-clause-documents : goal.returns-clause-documents
 returns-clause-documents g c =

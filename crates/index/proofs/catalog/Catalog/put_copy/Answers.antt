@@ -70,11 +70,12 @@ invariant_of-self-2 c =
     let here = body_is (document_at number (stored store)) held (sym (ap (λ s. option_map (λ d. d.1) (document_at number (documents_in s))) c.deref.ensures.value) ∙ c.in-Some.ensures) in
     let few : version + 1 < 2 ^ 32 = omega (arith, c.requires.few, ap (λ s. s.version) c.self.view_is) in
     let new = c.in_ok-enter_copy.ensures in
+    let room = c.if-not-has_room.ensures refl in
     let left =
     subst (λ o. IsLeft o name (stored store) c.enter_copy.new.groups (stored c.leave.new.store) c.leave.new.groups) of_name c.leave.ensures.left in
     let both =
     IsIndex-put is name held number c.enter_copy.new.numbers (stored store) c.enter_copy.new.groups c.leave.new.groups c.leave.new.store c.bytes_with-held_bytes.result
-    (ap (is_number number) (sym of_name) ∙ sym c.if-is_number.ensures) new.numbers new.ordered new.len new.name new.ok.names (λ m q h. refl) here
+    (ap (is_number number) (sym of_name) ∙ sym c.if-is_number.ensures) new.numbers new.ordered new.len room new.name new.ok.names (λ m q h. refl) here
     (AreContents-later version (stored store) is.contents) left (later_store version c.leave.new.store (c.leave.ensures.store version is.kept)) few
     (c.bytes_with-held_bytes.ensures ∙ sym (ap (λ s. body_bytes (insert (plain_documents s.documents) name held)) c.self.view_is)) in
     both.0
@@ -92,11 +93,12 @@ returns-clause-put c = λ yes.
     let here = body_is (document_at number (stored store)) held (sym (ap (λ s. option_map (λ d. d.1) (document_at number (documents_in s))) c.deref.ensures.value) ∙ c.in-Some.ensures) in
     let few : version + 1 < 2 ^ 32 = omega (arith, c.requires.few, ap (λ s. s.version) c.self.view_is) in
     let new = c.in_ok-enter_copy.ensures in
+    let room = c.if-not-has_room.ensures refl in
     let left =
     subst (λ o. IsLeft o name (stored store) c.enter_copy.new.groups (stored c.leave.new.store) c.leave.new.groups) of_name c.leave.ensures.left in
     let both =
     IsIndex-put is name held number c.enter_copy.new.numbers (stored store) c.enter_copy.new.groups c.leave.new.groups c.leave.new.store c.bytes_with-held_bytes.result
-    (ap (is_number number) (sym of_name) ∙ sym c.if-is_number.ensures) new.numbers new.ordered new.len new.name new.ok.names (λ m q h. refl) here
+    (ap (is_number number) (sym of_name) ∙ sym c.if-is_number.ensures) new.numbers new.ordered new.len room new.name new.ok.names (λ m q h. refl) here
     (AreContents-later version (stored store) is.contents) left (later_store version c.leave.new.store (c.leave.ensures.store version is.kept)) few
     (c.bytes_with-held_bytes.ensures ∙ sym (ap (λ s. body_bytes (insert (plain_documents s.documents) name held)) c.self.view_is)) in
     ap (state (version + 1)) both.1 ∙ ap (λ s. applied (Put name held) (plain_state s)) c.self.view_is

@@ -1,4 +1,4 @@
-use Rattle.std.proofs.Common.{◌+◌, ◌<◌, ◌^◌, sym, ◌∙◌, ap, arith, subst}
+use Rattle.std.proofs.Common.{◌+◌, ◌<◌, ◌^◌, refl, sym, ◌∙◌, ap, arith, subst}
 use Rattle.std.specs.FinMap.{insert}
 use Rattle.index.specs.declared.command.Command.TheVariants.{Put}
 use Rattle.index.specs.State.{body_bytes, state, applied}
@@ -52,9 +52,10 @@ invariant_of-self-2 c =
     c.leave.ensures.left in
     let few : version + 1 < 2 ^ 32 = omega (arith, c.requires.few, ap (λ s. s.version) c.self.view_is) in
     let new = c.in_ok-put_content.ensures in
+    let room = c.if-not-has_room.ensures refl in
     let both =
     IsIndex-put is name held number c.put_content.new.numbers (stored c.put_content.new.store) c.self.inside.groups c.leave.new.groups c.leave.new.store
-    c.bytes_with-held_bytes.result (no_new_number is name) new.numbers new.ordered new.len new.name
+    c.bytes_with-held_bytes.result (no_new_number is name) new.numbers new.ordered new.len room new.name
     (new_names is name held (stored c.put_content.new.store) new.documents) (new_bodies is name held (stored c.put_content.new.store) new.documents)
     (new_body is name held (stored c.put_content.new.store) new.documents)
     (subst (AreContents number) (sym new.documents) (AreContents-new version (stored store) name held c.trigrams-trigrams.ensures.body is.contents))
@@ -77,9 +78,10 @@ returns-clause-ok c =
     c.leave.ensures.left in
     let few : version + 1 < 2 ^ 32 = omega (arith, c.requires.few, ap (λ s. s.version) c.self.view_is) in
     let new = c.in_ok-put_content.ensures in
+    let room = c.if-not-has_room.ensures refl in
     let both =
     IsIndex-put is name held number c.put_content.new.numbers (stored c.put_content.new.store) c.self.inside.groups c.leave.new.groups c.leave.new.store
-    c.bytes_with-held_bytes.result (no_new_number is name) new.numbers new.ordered new.len new.name
+    c.bytes_with-held_bytes.result (no_new_number is name) new.numbers new.ordered new.len room new.name
     (new_names is name held (stored c.put_content.new.store) new.documents) (new_bodies is name held (stored c.put_content.new.store) new.documents)
     (new_body is name held (stored c.put_content.new.store) new.documents)
     (subst (AreContents number) (sym new.documents) (AreContents-new version (stored store) name held c.trigrams-trigrams.ensures.body is.contents))
