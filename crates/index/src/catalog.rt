@@ -45,8 +45,8 @@ use std::ops::Bound;
 use std::thread::Threads;
 use watch::{Pace, Unanswered, Watch, ask};
 
-/// The documents of a list that is shorter than the number of documents in question divided by this are sorted by name.
-/// For a longer list, all documents in question are gone through in the order of their names.
+/// If fewer documents are to be found than those in question divided by this, they are sorted by name. If they are more, all documents
+/// in question are gone through in the order of their names.
 const FEW: usize = 8;
 
 /// The same where only the first documents of the list are asked for, since going through the names ends at the last of them.
@@ -562,18 +562,18 @@ impl Catalog {
         }
     }
 
-    /// The documents whose numbers are in the list and whose names begin with one of the prefixes, in the order of their names:
-    /// all of them, or the first ones, of which there are `most` or more. A number that no document has is left out. The cost
-    /// depends mainly on how many names begin with the prefixes and are gone through until `most` documents are found or,
-    /// if the list is shorter than an eighth of the names in question, on the length of the list. If the list is longer than
-    /// `most`, it counts as shorter only below a 64th. All numbers of the list are gone through in any case, and each prefix is
-    /// looked for once or twice.
+    /// The documents whose numbers are in the list, of which there are `count`, and whose names begin with one of the prefixes, in the
+    /// order of their names: all of them, or the first ones, of which there are `most` or more. A number that no document has is left
+    /// out. The cost depends mainly on how many names begin with the prefixes and are gone through until `most` documents are found
+    /// or, if `count` is less than an eighth of the names in question, on `count`. If `count` is more than `most`, it counts as less
+    /// only below a 64th. All numbers of the list are gone through in any case, and each prefix is looked for once or twice.
     ///
     /// An `Err` means that memory ran out, that a name or a body has too many handles, or that `watch` called it off.
     pub(crate) fn chosen_documents_under<W: Watch>(
         &self,
         alloc: Global,
         chosen: &posting::List,
+        count: usize,
         prefixes: &Prefixes,
         most: usize,
         watch: &mut W,
@@ -583,15 +583,11 @@ impl Catalog {
         ensures called_off { IfErr result (IsCalledOffOnlyIf (W.has_said_no watch.new)) }
     {
         let _ = &self.version;
-        let few = if most < chosen.len() {
-            FEW_FOR_FIRST
-        } else {
-            FEW
-        };
-        if self.has_many_under(alloc, prefixes, chosen.len().saturating_mul(few), watch)? {
+        let few = if most < count { FEW_FOR_FIRST } else { FEW };
+        if self.has_many_under(alloc, prefixes, count.saturating_mul(few), watch)? {
             self.few(alloc, chosen, prefixes, most, watch)
         } else {
-            self.many(alloc, chosen, prefixes, most, watch)
+            self.many(alloc, chosen, count, prefixes, most, watch)
         }
     }
 
@@ -731,12 +727,13 @@ impl Catalog {
         }
     }
 
-    /// The documents whose numbers are in the list and whose names begin with one of the prefixes, found among those of each
-    /// prefix in turn, until there are `most`.
+    /// The documents whose numbers are in the list, of which there are `count`, and whose names begin with one of the prefixes, found
+    /// among those of each prefix in turn, until there are `most`.
     fn many<W: Watch>(
         &self,
         alloc: Global,
         chosen: &posting::List,
+        count: usize,
         prefixes: &Prefixes,
         most: usize,
         watch: &mut W,
@@ -748,7 +745,6 @@ impl Catalog {
         // the names rise, as is known of what goes through them
         let _in_order = self.numbers.iter();
         let among = chosen.lookup(alloc, watch)?;
-        let count = chosen.len();
         let mut shared = Vec::new(alloc);
         for prefix in prefixes.texts() {
             if shared.len() < most {

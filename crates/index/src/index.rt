@@ -310,7 +310,7 @@ impl Index {
         let (chosen, count) = self.catalog.candidates(alloc, query, watch)?;
         let documents = self
             .catalog
-            .chosen_documents_under(alloc, &chosen, prefixes, most, watch)?;
+            .chosen_documents_under(alloc, &chosen, count as usize, prefixes, most, watch)?;
         Ok(Candidates { count, documents })
     }
 }
