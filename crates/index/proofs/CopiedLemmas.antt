@@ -38,7 +38,7 @@ use Rattle.index.proofs.CopyingLemmas.{AreAlike, entered-other, entered-here, jo
 same_number : (n : ℕ) → (n == n) ≡ true
 same_number n = grind (arith, nat_tests)
 
-any_found : {X : Type 0} (p : X → Bool) (xs : List X) → list_any p xs ≡ true → (x : X) × Contains xs x × (p x ≡ true)
+pub any_found : {X : Type 0} (p : X → Bool) (xs : List X) → list_any p xs ≡ true → (x : X) × Contains xs x × (p x ≡ true)
 any_found p [] h = absurd (false≢true h)
 any_found {X} p (x ∷ xs) h = go (p x) refl h (any_found p xs)
   where

@@ -26,3 +26,4 @@ pub mod RemovedLemmas
 pub mod RenamedLemmas
 pub mod CopyingLemmas
 pub mod CopiedLemmas
+pub mod MovedLemmas

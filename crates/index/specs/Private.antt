@@ -8,3 +8,4 @@ pub mod Sets
 pub mod Store
 pub mod Chosen
 pub mod Copying
+pub mod Moving

@@ -30,6 +30,7 @@ use crate::document::SharedDocument;
 use crate::error::NameError;
 use crate::groups::{join, part, take_back};
 use crate::held::{Held, hash_of};
+use crate::moving::moves_between;
 use crate::name::{MAX_NAME, Name};
 use crate::sets::FEW_BYTES;
 use crate::slots::{Occupant, Slot, occupant_at};
@@ -51,6 +52,9 @@ const FEW: usize = 8;
 
 /// The same where only the first documents of the list are asked for, since going through the names ends at the last of them.
 const FEW_FOR_FIRST: usize = 64;
+
+/// So many names go over at most from one content to another one with the same body.
+const FEW_NAMES: usize = 64;
 
 /// How many names are passed at once to see where those end that begin with a prefix.
 const STRIDE: usize = 64;
@@ -126,6 +130,11 @@ impl Catalog {
         ensures err { OnErr result (self.new ≡ self.old) }
     {
         let old = self.number(name);
+        if let Some((own, like)) = self.own_beside_waiting(name, old, held) {
+            self.replace(own, name, held, false)?;
+            self.move_names(like, own);
+            return Ok(());
+        }
         let is_put = self.put_copy(name, old, held, false)?;
         if is_put {
             return Ok(());
@@ -264,6 +273,44 @@ impl Catalog {
         self.version += 1;
         change_hint(&mut self.hints, number, old, new);
         Ok(())
+    }
+
+    /// The content that has this name only, where `old` is the number under it, and another one that has this body and at most
+    /// `FEW_NAMES` names, if that one waits, and the first one does not. To change the sets of what little the body changes of the first
+    /// one, and have the names of the other one go over, takes less time than to take the first one out of the sets of its trigrams.
+    fn own_beside_waiting(&self, name: &Name, old: Option<u32>, held: &Held) -> Option<(u32, u32)>
+        requires { old ≡ number_of name.now self.now.documents }
+        ensures { IfSome result (λ found. IsOwn name.now found.0 self.now.documents) }
+    {
+        let own = self.own(name, old)?;
+        let like = content_with(&self.hints, &self.store.slots, held)?;
+        let sets = &self.store.sets;
+        if sets.has_waiting(own) || !sets.has_waiting(like) {
+            return None;
+        }
+        if like == own || names_of(&self.groups, like) > FEW_NAMES {
+            return None;
+        }
+        Some((own, like))
+    }
+
+    /// Has the names of one content go over to another one that has the same body, until memory runs out. The first one goes with its
+    /// last name.
+    fn move_names(&mut self, from: u32, to: u32)
+        ensures { plain_state self.new ≡ plain_state self.old }
+    {
+        let alloc = *self.store.slots.allocator();
+        let (numbers, groups) = (&mut self.numbers, &mut self.groups);
+        let Some(moves) = moves_between(alloc, numbers, groups, &self.store.slots, from, to) else {
+            return;
+        };
+        if !has_room(numbers, moves.len()) {
+            return;
+        }
+        let (count, _) = enter_all(numbers, groups, &self.store, &moves, self.held_bytes);
+        let done = &moves[..count];
+        let (hints, store) = (&mut self.hints, &mut self.store);
+        leave_all(groups, hints, store, done, Leaves::Old, false);
     }
 
     /// Has all contents wait for `fill`, if it has taken as long to change the sets as to fill them.

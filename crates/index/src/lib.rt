@@ -16,6 +16,7 @@ mod held;
 mod index;
 mod laws;
 mod lengths;
+mod moving;
 mod name;
 mod sets;
 mod slots;
