@@ -89,32 +89,125 @@ class Revisions(unittest.TestCase):
         made.commit("main", {**FILES, b"binary": b"\0", b"other binary": b"\0"})
         made.commit("topic", {b"src/x.c": b"int x;\n", b"README": None, b"binary": b"a text\n", b"src/util.c": b"\0"}, start="main")
         made.commit("same", {b"new": b"int new;\n"}, start="topic")
-        for branches in ["main", "topic", "same"], ["topic", "main", "same"]:
+        # a copy, the files that differ and are no binary ones, and the removals of what is one now, or is gone
+        for branches, accepted in (["main", "topic", "same"], 5 + (1 + 2 + 2) + (1 + 3 + 2)), (["topic", "main", "same"], 5 + (1 + 2 + 2) + (1 + 1)):
             with self.subTest(branches), tsearch.Session() as self.session:
                 revisions = git.Revisions(self.session, made.path, branches)
-                accepted = revisions.refresh().published.accepted
-                self.assertLess(accepted, len(FILES) + 2 * 6)
+                refreshed = revisions.refresh()
+                self.assertEqual(refreshed.published.accepted, accepted)
                 documents = {name: body for name, body in named(made, *branches).items() if body != b"\0"}
                 self.expect(documents)
                 left_out = {name: "binary" for name, body in named(made, *branches).items() if body == b"\0"}
-                self.assertEqual(revisions.left_out, left_out)
+                self.assertEqual((revisions.left_out, dict(refreshed.left_out)), (left_out, left_out))
                 self.assertEqual(revisions._objects.totals, (len(documents), sum(map(len, documents.values()))))
                 self.assertEqual(revisions.refresh()[:2], (0, 0))
 
-    def test_a_copy_that_is_refused(self) -> None:
-        """Its files are put then, and those that can be no documents are left out."""
+    def test_a_branch_that_has_little_of_the_first_one(self) -> None:
+        """It is no copy: less would stay than go."""
         made = self.made
-        made.commit("main", {b"a" * 200: b"int a;\n", b"b": b"int b;\n"})
+        made.commit("main", FILES)
+        made.commit("pages", {b"page": b"int page;\n", b"README": FILES[b"README"]})
+        made.commit("empty", {b"binary": b"\0"})
+        for branches in ["main", "pages", "empty"], ["empty", "main", "pages"]:
+            with self.subTest(branches), tsearch.Session() as self.session:
+                revisions = git.Revisions(self.session, made.path, branches)
+                self.assertEqual(revisions.refresh()[:2], (len(FILES) + 2, 0))
+                self.expect(named(made, "main", "pages"))
+                self.assertEqual(revisions.left_out, {b"empty:binary": "binary"})
+
+    def test_copies_and_progress(self) -> None:
+        """The numbers rise."""
+        made = self.made
+        made.commit("main", FILES)
+        for branch in "one", "two":
+            made.commit(branch, {branch.encode(): b"int own;\n", b"README": None}, start="main")
+        numbers: list[tuple[int, int]] = []
+        revisions = git.Revisions(self.session, made.path, ["main", "*"], progress=lambda done, of: numbers.append((done, of)))
+        refreshed = revisions.refresh()
+        self.assertEqual(refreshed[:2], (3 * len(FILES) + 2, 2))
+        self.assertEqual(numbers, sorted(numbers))
+        self.assertEqual(numbers[-1], (3 * len(FILES) + 4, 3 * len(FILES) + 4))
+        self.assertTrue(all(done <= of for done, of in numbers), numbers)
+
+    def test_names_that_are_too_long_for_copies(self) -> None:
+        """The files of such a branch are put, and those that can be no documents are left out. So they are if the first one's are too long."""
+        made = self.made
+        made.commit("main", {b"a " * 100: b"int a;\n", b"b": b"int b;\n", b"d": b"int d;\n"})
         branch = "t" * 200
         made.commit(branch, {b"c": b"int c;\n"}, start="main")
-        prefix = b"p/" * 1_900
-        revisions = git.Revisions(self.session, made.path, ["main", branch], prefix=prefix)
-        self.assertEqual([one.name for one in revisions.refresh().published.refused], [prefix + branch.encode() + b":"])
-        revisions.refresh()
-        wanted = named(made, "main", branch, prefix=prefix)
-        self.expect({name: body for name, body in wanted.items() if len(name) <= 4_096})
-        self.assertEqual(list(revisions.left_out), [branch.encode() + b":" + b"a" * 200])
-        self.assertEqual(revisions.refresh()[:2], (0, 0))
+        prefix = b"p/" * 1_775
+        for branches in ["main", branch], [branch, "main"]:
+            with self.subTest(branches[0]), tsearch.Session() as self.session:
+                revisions = git.Revisions(self.session, made.path, branches, prefix=prefix)
+                self.assertEqual(revisions.refresh().published.refused, ())
+                long = branch.encode() + b":" + b"a " * 100
+                documents = named(made, *branches, prefix=prefix)
+                del documents[prefix + long]
+                self.expect(documents)
+                self.assertEqual(revisions.left_out, {long: "name too long"})
+                self.assertEqual(revisions.refresh()[:2], (0, 0))
+
+    def test_a_copy_that_is_refused(self) -> None:
+        """The next look puts its files. So it does if the first branch alone has a name that is too long for the program."""
+        made = self.made
+        made.commit("main", {b"a" * 200: b"int a;\n", b"b": b"int b;\n", b"d": b"int d;\n"})
+        branch = "t" * 200
+        made.commit(branch, {b"c": b"int c;\n", b"b": None}, start="main")
+        long = branch.encode() + b":" + b"a" * 200
+        for branches, refused in (["main", branch], branch.encode() + b":"), ([branch, "main"], long):
+            with self.subTest(branches[0]), tsearch.Session(max_name=255) as self.session:
+                revisions = git.Revisions(self.session, made.path, branches)
+                self.assertIn(refused, [one.name for one in revisions.refresh().published.refused])
+                self.assertEqual(list(revisions.commits), branches[:1])
+                self.assertEqual(revisions._objects.totals[0], self.session.status().documents)
+                revisions.refresh()
+                documents = named(made, *branches)
+                del documents[long]
+                self.expect(documents)
+                self.assertEqual(revisions.left_out, {long: "name too long"})
+                self.assertEqual(revisions._objects.totals, (len(documents), sum(map(len, documents.values()))))
+                self.assertEqual(revisions.refresh()[:2], (0, 0))
+
+    def test_copies_of_what_is_refused(self) -> None:
+        """The program refuses a body of the first branch, a new one or one in the place of another, and then each copy of it goes too."""
+        made = self.made
+        long = b"x" * 20_000 + b"\n"
+        made.commit("main", {**FILES, b"src/new:": long})
+        made.commit("topic", {b"src/x.c": b"int x;\n"}, start="main")
+        with tsearch.Session(max_line=16_384) as self.session:
+            revisions = git.Revisions(self.session, made.path, ["main", "*"])
+            reason = "line too long"
+            self.assertEqual(dict(revisions.refresh().left_out), {b"main:src/new:": reason, b"topic:src/new:": reason})
+            made.commit("main", {b"README": long})
+            made.commit("same", {}, start="main")
+            made.commit("well", {b"README": b"int well;\n"}, start="main")
+            self.assertEqual(dict(revisions.refresh().left_out), {b"main:README": reason, b"same:README": reason, b"same:src/new:": reason, b"well:src/new:": reason})
+            documents = {name: body for name, body in named(made, "main", "topic", "same", "well").items() if body != long}
+            self.expect(documents)
+            self.assertEqual(revisions._objects.totals, (len(documents), sum(map(len, documents.values()))))
+            self.assertEqual(revisions.refresh()[:2], (0, 0))
+
+    def test_copies_of_a_look_that_fails(self) -> None:
+        """After each of its steps. The next one sends what is lacking."""
+        made = self.made
+        made.commit("main", FILES)
+        made.commit("topic", {b"src/x.c": b"int x;\n", b"README": None}, start="main")
+        documents = named(made, "main", "topic")
+        for count in range(10):
+            for is_sent in False, True:
+                with self.subTest((count, is_sent)), tsearch.Session() as self.session:
+                    objects = git.Objects(git.Store(made.path), ["main", "topic"], copies=True)
+                    kept = tsearch.folder.Kept(self.session, objects)
+                    kept._begin(self.session.life)
+                    steps = objects.steps()
+                    for number, step in zip(range(count), steps):
+                        if is_sent or number < count - 1:
+                            self.carry_out(step)
+                    steps.close()
+                    kept._is_pending = True
+                    kept.refresh()
+                    self.expect(documents)
+                    self.assertEqual(objects.totals, (len(documents), sum(map(len, documents.values()))))
 
     def test_renames(self) -> None:
         made = self.made

@@ -18,13 +18,13 @@ import stat
 import subprocess
 import threading
 import time
-from collections.abc import Collection, Iterable, Iterator, Mapping, Sequence
+from collections.abc import Collection, Generator, Iterable, Iterator, Mapping, Sequence
 from typing import IO, NamedTuple
 
 from . import names
 from .errors import ChangeRefused, Error
 from .folder import MOST_TOGETHER, TICK, Kept, LeftOut, Progress, Step, called, text_body
-from .program import MOST_BODY
+from .program import MOST_BODY, MOST_NAME
 from .repository import git_folder
 from .session import Session
 
@@ -38,6 +38,8 @@ _OF_NAMES = (b"HEAD", b"packed-refs", b"refs", b"reftable")
 _BLOCK = 1 << 18
 # In seconds: how long git may take to list what has changed.
 _GIT_TIME = 600
+# How the program, and this package, refuse what another document of the same body need not be refused for.
+_TOO_LONG = "name too long"
 
 
 class NoRepository(Error):
@@ -223,15 +225,15 @@ class Objects:
     """What a session has of a repository's revisions, as its client knows it: a document for each file, named `prefix`, the name of the
     revision, a colon and the path. It sends nothing.
 
-    copies: whether a revision that comes begins as a copy of the documents of the first one, and then costs the files in which the two
-        differ. A cluster cannot copy.
+    copies: whether a revision that comes begins as a copy of the documents of the first one, if most of them stay, and then costs the files
+        in which the two differ. A cluster cannot copy.
     """
 
     def __init__(self, store: Store, wanted: Sequence[str], prefix: str | bytes = b"", *, copies: bool = False) -> None:
         self._copies = copies
-        # revisions whose copy was refused: their files are put
+        # revisions that were refused as copies: their files are put
         self._is_put: set[str] = set()
-        # the revisions that were copied since the last publish, by that which they are copies of, with the paths that they have otherwise
+        # the revisions that were copied in the last look, by that which they are copies of, with the paths in which the two differ
         self._since: dict[str, dict[str, Collection[bytes]]] = collections.defaultdict(dict)
         self.store = store
         self.root = store.path
@@ -274,20 +276,22 @@ class Objects:
         began, stamp, wanted = time.time_ns(), self.store.stamp(), self.wanted
         if (stamp, wanted) == self._seen:
             return
+        self._since.clear()
         now = self.store.commits(wanted)
         gone = [one for one in self.held if one not in now]
         removed = {revision: self._removed(revision) for revision in gone}
         put: list[tuple[bytes, Entry]] = []
-        base, copied = self._to_copy(now)
+        base, coming = self._coming(now)
         for revision, commit in now.items():
-            if self.commits.get(revision) != commit and revision not in copied:
+            if self.commits.get(revision) != commit and revision not in coming:
                 self._change(revision, self._changes(revision, commit), removed, put)
         # of a look that fails midway it is not known which documents were sent: the next one sends all of these revisions
         self._seen, self.commits = None, {revision: commit for revision, commit in self.commits.items() if now.get(revision) == commit}
-        yield from self._steps(removed, put)
-        for revision in copied:
-            yield from self._copied(base, now[base], revision, now[revision])
+        done = yield from self._steps(removed, put)
+        for revision in coming:
+            done = yield from self._beside(base, now[base], revision, now[revision], done)
         self.commits = now
+        self._is_put &= now.keys()
         for revision in gone:
             del self.held[revision]
         # a file that changes twice within a tick of the clock has another number, mostly
@@ -295,28 +299,45 @@ class Objects:
         is_whole = all(is_glob(name) or name in now for name in wanted)
         self._seen = (stamp, wanted) if is_settled and is_whole else None
 
-    def _to_copy(self, now: Mapping[str, str]) -> tuple[str, list[str]]:
-        """The first revision, and those others of which the session has nothing, and which begin as copies of it."""
+    def _coming(self, now: Mapping[str, str]) -> tuple[str, list[str]]:
+        """The first revision, and the others of which the session has nothing, and which may begin as copies of it."""
         first = next(iter(now), "")
-        if not self._copies:
-            return first, []
-        return first, [one for one in now if self.commits.get(one) != now[one] and not self.held.get(one) and one not in {first, *self._is_put}]
+        passed = {first, *self._is_put}
+        return first, [one for one in now if one not in passed and one not in self.commits and not self.held.get(one)] if self._copies else []
 
-    def _copied(self, base: str, commit: str, revision: str, own: str) -> Iterator[Step]:
-        """The steps for a revision that begins as a copy of another one, which the session has as of this commit."""
-        start, from_start = self._start(revision), self._start(base)
-        self.held[revision] = dict(self.held.get(base, {}))
-        if held := self.held[revision]:
-            yield Step(self.prefix + start, None, 0, len(held), under=len(held), source=self.prefix + from_start)
-            self._bytes += sum(held.values())
-        for name, reason in [pair for pair in self.left_out.items() if pair[0].startswith(from_start)]:
-            self._leave_out(start + name.removeprefix(from_start), reason)
-        changed = self.store.changes(commit, own)
-        self._since[base][revision] = changed.keys()
+    def _beside(self, base: str, commit: str, revision: str, own: str, done: int) -> Generator[Step, None, int]:
+        """The steps for a revision of which the session has nothing, behind so many others, once it has another one as of a commit."""
+        changed: Mapping[bytes, Entry | None] = self.store.changes(commit, own)
+        if self._is_to_copy(base, revision, changed):
+            done = yield from self._copy(base, revision, changed, done)
+        else:
+            changed = self._changes(revision, own)
         removed: dict[str, list[bytes]] = {}
         put: list[tuple[bytes, Entry]] = []
         self._change(revision, changed, removed, put)
-        yield from self._steps(removed, put)
+        return (yield from self._steps(removed, put, done))
+
+    def _is_to_copy(self, base: str, revision: str, changed: Mapping[bytes, Entry | None]) -> bool:
+        """Whether a revision begins as a copy of another one, from which it differs in these paths: if more of the documents stay than go, and
+        neither of the two has names that are too long."""
+        held, from_start = self.held.get(base, {}), self._start(base)
+        stay = sum(path not in changed for path in held)
+        if stay <= sum(changed.get(path, ()) is None for path in held):
+            return False
+        longest = len(names.quote(self.prefix + self._start(revision))) + max(len(names.quote(path)) for path in held)
+        return longest <= MOST_NAME and not any(reason == _TOO_LONG and name.startswith(from_start) for name, reason in self.left_out.items())
+
+    def _copy(self, base: str, revision: str, changed: Mapping[bytes, Entry | None], done: int) -> Generator[Step, None, int]:
+        """The step that makes a revision a copy of another one, from which it differs in these paths. What is left out there is so here."""
+        start, from_start = self._start(revision), self._start(base)
+        held = self.held[revision] = dict(self.held[base])
+        self._bytes += sum(held.values())
+        self._since[base][revision] = changed.keys()
+        for name, reason in [pair for pair in self.left_out.items() if pair[0].startswith(from_start)]:
+            if (path := name.removeprefix(from_start)) not in changed:
+                self._leave_out(start + path, reason)
+        yield Step(self.prefix + start, None, done, done + len(held), under=len(held), source=self.prefix + from_start)
+        return done + len(held)
 
     def _change(
         self, revision: str, changed: Mapping[bytes, Entry | None], removed: dict[str, list[bytes]], put: list[tuple[bytes, Entry]]
@@ -354,10 +375,10 @@ class Objects:
         for path in changed:
             self.left_out.pop(start + path, None)
 
-    def _steps(self, removed: dict[str, list[bytes]], put: list[tuple[bytes, Entry]]) -> Iterator[Step]:
-        done = sum(map(len, removed.values()))
-        of = done + len(put)
-        yield from self._removals(removed, of)
+    def _steps(self, removed: dict[str, list[bytes]], put: list[tuple[bytes, Entry]], done: int = 0) -> Generator[Step, None, int]:
+        """The steps that remove some paths of revisions and put others, behind so many. How many have come before the next ones."""
+        of = done + sum(map(len, removed.values())) + len(put)
+        done = yield from self._removals(removed, of, done)
         by_object: dict[bytes, list[bytes]] = collections.defaultdict(list)
         for name, entry in put:
             if entry.kind not in FILE_KINDS:
@@ -370,10 +391,10 @@ class Objects:
             for name in by_object[number]:
                 yield from self._put(name, body, done, of)
                 done += 1
+        return done
 
-    def _removals(self, removed: dict[str, list[bytes]], of: int) -> Iterator[Step]:
-        """The steps that remove some paths of revisions."""
-        done = 0
+    def _removals(self, removed: dict[str, list[bytes]], of: int, done: int = 0) -> Generator[Step, None, int]:
+        """The steps that remove some paths of revisions, behind so many. How many have come before the next ones."""
         for revision, gone in removed.items():
             start = self._start(revision)
             for begin, paths in _gathered(gone, self.held[revision]):
@@ -382,6 +403,7 @@ class Objects:
                 for path in paths:
                     self._drop(start + path)
                 done += len(paths)
+        return done
 
     def _put(self, name: bytes, body: bytes | str, done: int, of: int) -> Iterator[Step]:
         """The step for a document; a text in place of its body is the reason why it can be none."""
@@ -423,28 +445,40 @@ class Objects:
         stale = []
         for refusal in refused:
             name = refusal.name.removeprefix(self.prefix)
-            if refusal.name.startswith(self.prefix) and name.endswith(b":") and _split(name)[0] in self.held:
-                self._forget_copy(_split(name)[0])
-            elif refusal.name.startswith(self.prefix) and _split(name)[1] in self.held.get(_split(name)[0], ()):
+            revision, path = _split(name)
+            if not refusal.name.startswith(self.prefix) or revision not in self.held:
+                continue
+            if not path:
+                self._take_refused_copy(revision)
+            elif path in self.held[revision]:
                 is_stale = name not in self._new
-                for own in (name, *self._copies_of(*_split(name))):
+                for one in (revision, *self._copies_of(revision, path)):
+                    own = self._start(one) + path
                     if is_stale:
                         stale.append(self.prefix + own)
                     self._drop(own)
-                    self._leave_out(own, called(refusal.reason))
+                    if one == revision or refusal.reason != _TOO_LONG:
+                        self._leave_out(own, called(refusal.reason))
+                    else:
+                        self._put_anew(one)
         self._new.clear()
-        self._since.clear()
         return stale
 
-    def _copies_of(self, revision: str, path: bytes) -> list[bytes]:
-        """The names under which a document was copied since the last publish, and is not changed."""
+    def _copies_of(self, revision: str, path: bytes) -> list[str]:
+        """The revisions that have a document by a copy of the last look."""
         copies = self._since.get(revision, {})
-        return [self._start(one) + path for one, changed in copies.items() if path not in changed and path in self.held.get(one, {})]
+        return [one for one, changed in copies.items() if path not in changed and path in self.held.get(one, {})]
 
-    def _forget_copy(self, revision: str) -> None:
-        """The session has refused to copy another revision: the next look puts the files of this one."""
-        for path in list(self.held[revision]):
+    def _take_refused_copy(self, revision: str) -> None:
+        """The session has refused to make a revision a copy: it has the files alone that were put then."""
+        held = self.held[revision]
+        changed = next((copies[revision] for copies in self._since.values() if revision in copies), held)
+        for path in [path for path in held if path not in changed]:
             self._drop(self._start(revision) + path)
+        self._put_anew(revision)
+
+    def _put_anew(self, revision: str) -> None:
+        """The next look puts all files of a revision, which is no copy any more."""
         self._is_put.add(revision)
         self.commits.pop(revision, None)
         self._seen = None
