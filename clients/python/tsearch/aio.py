@@ -214,7 +214,7 @@ class _Connection:
 
 
 class Change:
-    """A put, a load or a remove that was sent. Whether it is accepted is known once a text of a later item has come."""
+    """A put, a load, a remove or a copy that was sent. Whether it is accepted is known once a text of a later item has come."""
 
     def __init__(self, connection: _Connection, sent: Sent) -> None:
         self._connection = connection

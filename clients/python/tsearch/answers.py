@@ -68,7 +68,7 @@ class Answer:
     """The answer to a search, sorted by the bytes of the quoted name and then by line.
 
     life: how often the session has started its program; versions begin again with each life.
-    version: the answer is for the documents after this many accepted puts, loads and removes.
+    version: the answer is for the documents after this many accepted puts, loads, removes and copies.
     count: how many lines it has, without those around them; how many names, with `names_only` and `counts`.
     more: whether `limit` left out something.
     view: what it shows. Each method below says for which views it is, and raises `ValueError` for another.
@@ -175,7 +175,7 @@ def joined(answers: Sequence[Answer]) -> Answer | None:
 @dataclass(frozen=True)
 class Status:
     """What a session holds in this life of its program. `version`, `documents` and `bytes` are those of the last publish, with the
-    bytes of all bodies together. `accepted` of at most `most` puts, loads and removes are accepted, published or not. `open` searches
+    bytes of all bodies together. `accepted` of at most `most` puts, loads, removes and copies are accepted, published or not. `open` searches
     have no entry yet."""
 
     life: int
@@ -189,7 +189,7 @@ class Status:
 
 @dataclass(frozen=True)
 class Published(Status):
-    """The status right after a publish, and the puts, loads and removes that were refused since the last one that was not. Those that a
+    """The status right after a publish, and the puts, loads, removes and copies that were refused since the last one that was not. Those that a
     `Folder` or another source has sent are told to it alone."""
 
     refused: tuple[ChangeRefused, ...] = ()

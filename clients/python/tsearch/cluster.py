@@ -1,7 +1,7 @@
 """Documents over several sessions on the workers of a Dask cluster. It needs the library distributed.
 
 Each shard is a session in an actor on a worker of its own. A document is in the shard that its name says, and a search asks all
-shards. Dask does not keep the order of the calls of one client to one actor. So each shard has a **lane**: all that waits in it goes as
+shards. So a document under another name mostly belongs to another shard, which has no body of it: there is no `copy_under`. Dask does not keep the order of the calls of one client to one actor. So each shard has a **lane**: all that waits in it goes as
 one call, and one call is on its way at a time. A publish and a search are put into all lanes in one step, and a shard publishes once
 the searches before are answered, so each answer is from the same publish in all shards. If a worker or its program ends, or does not
 answer in time, the lane makes a new actor, feeds it, and sends the call again.

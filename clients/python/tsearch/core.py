@@ -49,7 +49,7 @@ class Sent:
 
     def __init__(self, line: int, name: bytes | None = None) -> None:
         self.line = line
-        # of a put, a load or a remove: the document's, or the prefix, as it was given
+        # of a put, a load, a remove or a copy: the document's, the prefix, or what a copy leads to, as it was given
         self.name = name
         # of these: where its refusal is told, if not by the next publish
         self.refusals: list[ChangeRefused] | None = None

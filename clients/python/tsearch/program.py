@@ -14,7 +14,7 @@ from .errors import Error
 
 # In seconds: how long a program that has closed its output, or is killed, may take to end.
 TO_END = 5.0
-# The most puts, loads and removes that a session can be told to take: a client that stays does not want to be full.
+# The most puts, loads, removes and copies that a session can be told to take: a client that stays does not want to be full.
 MOST_COMMANDS = 4_294_967_294
 # The greatest lengths that it can be told to take, in bytes: of a body and of a line, and of a name as it is written. Clients want all text.
 MOST_BODY = 67_108_864

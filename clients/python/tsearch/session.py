@@ -334,7 +334,7 @@ class _Connection:
 
 
 class Change:
-    """A put, a load or a remove that was sent. Whether it is accepted is known once a text of a later item has come."""
+    """A put, a load, a remove or a copy that was sent. Whether it is accepted is known once a text of a later item has come."""
 
     def __init__(self, connection: _Connection, sent: Sent) -> None:
         self._connection = connection
@@ -455,7 +455,7 @@ class Session(Changes):
     program: the path of the program, or the words of a command to which the options below are added; by default `find_program()`.
     readers: how many threads of the program answer, 0 to 16; by default the program's 2.
     search_ms: a search without an answer in so many milliseconds raises `TooSlow`.
-    max_commands: how many puts, loads and removes the session takes; by default as many as it can.
+    max_commands: how many puts, loads, removes and copies the session takes; by default as many as it can.
     max_body, max_line, max_name: how many bytes a body, a line and a quoted name may have; by default as many as they can, and with None as
         many as the program takes by itself.
     max_answer: how many bytes an answer may have; `SearchRefused` for one that has more. By default as many as there is memory for.

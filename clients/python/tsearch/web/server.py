@@ -615,7 +615,7 @@ class Server:
             status = await self._shared.status()
             rows.add("tsearch_up", "gauge", "", 1, {})
             rows.add("tsearch_version", "gauge", "The version that is published.", status.version, {})
-            rows.add("tsearch_accepted", "gauge", "Puts, loads and removes in this life of the program.", status.accepted, {})
+            rows.add("tsearch_accepted", "gauge", "Puts, loads, removes and copies in this life of the program.", status.accepted, {})
             rows.add("tsearch_open_searches", "gauge", "Searches without an entry.", status.open, {})
         rows.add("tsearch_memory_bytes", "gauge", "Memory of the program.", memory_of([getattr(session, "pid", None)]), {})
         rows.add("tsearch_restarts_total", "counter", "Programs started again.", self._shared.restarts + getattr(session, "heals", 0), {})
