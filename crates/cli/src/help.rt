@@ -18,7 +18,7 @@ Options:
                           their trigrams, and how many there are
       --times             Shows with each answer for how many microseconds it waited and worked,
                           and by which way its lines were found
-      --max-commands <N>  How many puts, loads and removes are accepted, 1 to 4294967294
+      --max-commands <N>  How many puts, loads, removes and copies are accepted, 1 to 4294967294
                           [default: 1000000]
       --live              Carries out each line as it arrives, and writes each answer as soon as it
                           is there, whichever search was asked first
@@ -36,7 +36,7 @@ A script is a list of lines:
   remove NAME         removes the document NAME
   removeunder PREFIX  removes all documents whose names begin with PREFIX
   copyunder FROM TO   copies all documents whose names begin with FROM to names with TO in its place
-  publish             lets searches see all puts, loads and removes so far
+  publish             lets searches see all puts, loads, removes and copies so far
   search ERE          lists the lines with a match of the expression ERE
   searchin NAMES ERE  lists them only in documents whose names match the expression NAMES
   isearch ERE, isearchin NAMES ERE
