@@ -1,9 +1,10 @@
 """What revisions of a tree cost that are mostly the same files: python3 bench/contents.py FOLDER.
 
 A session with readers gets the folder's files under r0/, and then nine further revisions under r1/ to r9/, each with 50 files more that are
-changed. The first table has how long a revision takes from the first byte sent until a search finds its last change, and how much memory
-it takes once both copies of the index have it. The second one has searches over one revision, in a session of its own, and over all ten,
-without the text of their lines, and how many times as long these take.
+changed: in one session by puts of all files, and in another one by a `copyunder` of the revision before and by puts of the changed files.
+The first table has how long a revision takes from the first byte sent until a search finds its last change, and how much memory it takes
+once both copies of the index have it. The second one has searches over one revision, in a session of its own, and over all ten, without the
+text of their lines, and how many times as long these take.
 """
 import random
 import statistics
@@ -32,6 +33,16 @@ def items_of(documents, number):
     return b"".join(corpus.put(b"r%d/%s" % (number, name), body) for name, body in documents.items())
 
 
+def by_puts(documents, number, _):
+    """A revision by its files."""
+    return items_of(documents, number)
+
+
+def by_copies(documents, number, names):
+    """A revision by the one before, of which these files are changed."""
+    return b"copyunder r%d/ r%d/\n" % (number - 1, number) + items_of({name: documents[name] for name in names}, number)
+
+
 def settled(session):
     """The resident memory once both copies of the index have what is published."""
     for _ in range(3):
@@ -39,23 +50,26 @@ def settled(session):
     return session.resident()
 
 
-def revisions(session, documents, rng):
-    """Feeds all revisions, and tells what each takes."""
+def revisions(session, documents, way, rng):
+    """Feeds all revisions, the further ones in a way, and tells what each takes."""
     _, seconds = session.ask(items_of(documents, 0) + b"publish\nsearch zzqqxxyy\n")
     memory = settled(session)
     command.row("the first", "%.0f" % (1000 * seconds), "%.1f" % (memory / 1e6))
     names, now = sorted(documents), documents
     times, more = [], []
     for number in range(1, REVISIONS):
-        now, word = changed(now, rng.sample(names, CHANGED), number)
-        text, seconds = session.ask(items_of(now, number) + b"publish\nfind -c -- %s\n" % word)
+        own = rng.sample(names, CHANGED)
+        now, word = changed(now, own, number)
+        text, seconds = session.ask(way(now, number, own) + b"publish\nfind -c -- %s\n" % word)
         if text.count(b"\n") != 1 + CHANGED:
             sys.exit("%s: not the changed files: %r" % (build.called(), text[:200]))
         after = settled(session)
         times.append(1000 * seconds)
         more.append((after - memory) / 1e6)
         memory = after
-    command.row("each further one, by puts", "%.0f to %.0f" % (min(times), max(times)), "%.1f to %.1f" % (min(more), max(more)))
+    called = way.__name__.replace("_", " ")
+    command.row("the second, %s" % called, "%.1f" % times[0], "%.2f" % more[0])
+    command.row("each further one, %s" % called, "%.1f to %.1f" % (min(times[1:]), max(times[1:])), "%.2f to %.2f" % (min(more[1:]), max(more[1:])))
 
 
 class Counting(client.Session):
@@ -82,13 +96,16 @@ def median_of(session, pattern):
 def main():
     (folder,) = command.words(__doc__)
     build.need_program()
-    rng = random.Random(1)
     documents = corpus.documents_of(folder)
     print("\n%d files, %.1f MB" % (len(documents), sum(map(len, documents.values())) / 1e6))
-    alone, together = (Counting("--readers", READERS, "--max-commands", "1000000") for _ in range(2))
+    alone, together, copied = (Counting("--readers", READERS, "--max-commands", "1000000") for _ in range(3))
     alone.ask(items_of(documents, 0) + b"publish\nsearch zzqqxxyy\n")
     command.head(["revision", "until it is found, ms", "memory more, MB"])
-    revisions(together, documents, rng)
+    for session, way in (together, by_puts), (copied, by_copies):
+        revisions(session, documents, way, random.Random(1))
+    if (lines := together.count(b"e")[0]) != (others := copied.count(b"e")[0]):
+        sys.exit("%s: %d lines by puts, and %d by copies" % (build.called(), lines, others))
+    copied.end()
     settled(alone)
     command.head(["pattern", "lines in one, in ten", "one, ms", "ten, ms", "times"])
     for pattern in PATTERNS:
