@@ -3,7 +3,7 @@
 A session with readers gets the folder's files under r0/, and then nine further revisions under r1/ to r9/, each with 50 files more that are
 changed: in one session by puts of all files, and in another one by a `copyunder` of the revision before and by puts of the changed files.
 The first table has how long a revision takes from the first byte sent until a search finds its last change, and how much memory it takes
-once both copies of the index have it. The second one has searches over one revision, in a session of its own, and over all ten, without the
+once both copies of the index have it; for the third one to the last, the least, the median and the most. The second one has searches over one revision, in a session of its own, and over all ten, without the
 text of their lines, and how many times as long these take.
 """
 import random
@@ -68,8 +68,8 @@ def revisions(session, documents, way, rng):
         more.append((after - memory) / 1e6)
         memory = after
     called = way.__name__.replace("_", " ")
-    command.row("the second, %s" % called, "%.1f" % times[0], "%.2f" % more[0])
-    command.row("each further one, %s" % called, "%.1f to %.1f" % (min(times[1:]), max(times[1:])), "%.2f to %.2f" % (min(more[1:]), max(more[1:])))
+    command.row("the second, %s" % called, "%.2f" % times[0], "%.2f" % more[0])
+    command.row("each further one, %s" % called, *(command.shown((min(some), statistics.median(some), max(some))) for some in (times[1:], more[1:])))
 
 
 class Counting(client.Session):
