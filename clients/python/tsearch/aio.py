@@ -214,7 +214,7 @@ class _Connection:
 
 
 class Change:
-    """A put, a load, a remove or a copy that was sent. Whether it is accepted is known once a text of a later item has come."""
+    """A put, a load or a remove that was sent. Whether it is accepted is known once a text of a later item has come."""
 
     def __init__(self, connection: _Connection, sent: Sent) -> None:
         self._connection = connection
@@ -565,18 +565,17 @@ class Kept:
             if changes.life != self._life:
                 self._begin(changes.life)
                 look = self._source.steps
-            if self._is_pending:
-                # of a look that has failed: a refusal of it is of nothing that the source gives now
-                async with self._session.feeding:
-                    if isinstance(changes, Changes):
-                        await (await changes.mark())
-                    await self._take_refusals(changes)
             steps = look()
             if not await self._has_more(steps) and not self._is_pending:
                 await self._session.status()  # it may have ended
                 return Refreshed(0, 0, self._source.take_news(), None)
             # who else changes the session waits only from here on
             async with self._session.feeding:
+                if self._is_pending:
+                    # of a look that has failed: a refusal of it is of no body that is sent now
+                    if isinstance(changes, Changes):
+                        await (await changes.mark())
+                    await self._take_refusals(changes)
                 put, removed = await self._send(changes, self._before_change, steps)
                 published = await self._publish(changes)
             return Refreshed(put, removed, self._source.take_news(), published)
