@@ -187,6 +187,33 @@ class Revisions(unittest.TestCase):
             self.assertEqual(revisions._objects.totals, (len(documents), sum(map(len, documents.values()))))
             self.assertEqual(revisions.refresh()[:2], (0, 0))
 
+    def test_copies_that_are_sent_late(self) -> None:
+        """Refusals are taken once they are given and not yet sent. Then the next look puts the files of a copy of what is refused."""
+        made = self.made
+        long = b"x" * 20_000 + b"\n"
+        made.commit("main", {**FILES, b"long": long})
+        made.commit("topic", {b"src/x.c": b"int x;\n"}, start="main")
+        with tsearch.Session(max_line=16_384) as self.session:
+            objects = git.Objects(git.Store(made.path), ["main", "topic"], copies=True)
+            steps = list(objects.steps())
+            self.assertEqual(objects.take_refusals((), False), [])
+            for step in steps:
+                self.carry_out(step)
+            refused = self.session.publish().refused
+            self.assertEqual([one.name for one in refused], [b"main:long"])
+            objects.take_refusals(refused)
+            self.assertEqual(list(objects.commits), ["main"])
+            for step in objects.steps():
+                self.carry_out(step)
+            refused = self.session.publish().refused
+            self.assertEqual([one.name for one in refused], [b"topic:long"])
+            self.assertEqual(objects.take_refusals(refused), [b"topic:long"])
+            documents = {name: body for name, body in named(made, "main", "topic").items() if body != long}
+            self.expect(documents)
+            self.assertEqual(objects.left_out, {b"main:long": "line too long", b"topic:long": "line too long"})
+            self.assertEqual(objects.totals, (len(documents), sum(map(len, documents.values()))))
+            self.assertEqual(list(objects.steps()), [])
+
     def test_copies_of_a_look_that_fails(self) -> None:
         """After each of its steps. The next one sends what is lacking."""
         made = self.made

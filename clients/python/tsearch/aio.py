@@ -214,7 +214,7 @@ class _Connection:
 
 
 class Change:
-    """A put, a load or a remove that was sent. Whether it is accepted is known once a text of a later item has come."""
+    """A put, a load, a remove or a copy that was sent. Whether it is accepted is known once a text of a later item has come."""
 
     def __init__(self, connection: _Connection, sent: Sent) -> None:
         self._connection = connection
@@ -706,7 +706,7 @@ class Kept:
         refused = tuple(self._refused)
         self._refused.clear()
         later = {step.name for step in self._unsent} if refused else set()
-        stale = self._source.take_refusals(tuple(refusal for refusal in refused if refusal.name not in later))
+        stale = self._source.take_refusals(tuple(refusal for refusal in refused if refusal.name not in later), not self._unsent)
         for name in stale:
             self._is_pending = True
             await changes.remove(name)

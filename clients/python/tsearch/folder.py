@@ -90,8 +90,9 @@ class Source(Protocol):
     def steps(self) -> Iterator[Step]:
         """Looks at all of it, and gives what makes the session's documents those that it has, to be sent in this order."""
 
-    def take_refusals(self, refused: tuple[ChangeRefused, ...]) -> list[bytes]:
-        """Takes what a publish says was refused. The documents to remove: the session has an older body of each."""
+    def take_refusals(self, refused: tuple[ChangeRefused, ...], are_sent: bool = True) -> list[bytes]:
+        """Takes what a publish says was refused, or with `are_sent` false what is refused while some of the steps given are not yet sent. The
+        documents to remove: the session has an older body of each."""
 
     def is_new(self, name: bytes) -> bool:
         """Whether the document of a step is new to the session."""
@@ -217,7 +218,7 @@ class Files:
             for body in self._look_at(name, file):
                 yield Step(self.prefix + name, body, at, len(gone) + len(changed))
 
-    def take_refusals(self, refused: tuple[ChangeRefused, ...]) -> list[bytes]:
+    def take_refusals(self, refused: tuple[ChangeRefused, ...], are_sent: bool = True) -> list[bytes]:
         """Takes what a publish says was refused. The documents to remove: the session has an older body of each."""
         stale = []
         for refusal in refused:

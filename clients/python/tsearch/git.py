@@ -221,6 +221,31 @@ def _is_unfit(name: str) -> bool:
     return any(letter in name for letter in "\n\0:") or name.startswith(("-", "^"))
 
 
+class _Copies:
+    """The revisions that began as copies of others, each with the paths in which the two differ."""
+
+    def __init__(self) -> None:
+        self._changed: dict[tuple[str, str], Collection[bytes]] = {}
+
+    def add(self, base: str, revision: str, changed: Collection[bytes]) -> None:
+        """Notes a copy of a base."""
+        self._changed[base, revision] = changed
+
+    def and_more(self, others: _Copies) -> _Copies:
+        """These and others."""
+        copies = _Copies()
+        copies._changed = {**self._changed, **others._changed}
+        return copies
+
+    def of(self, base: str, path: bytes) -> list[str]:
+        """The revisions that have a file by a copy of a base."""
+        return [revision for (other, revision), changed in self._changed.items() if other == base and path not in changed]
+
+    def changed(self, revision: str) -> Collection[bytes] | None:
+        """The paths in which a revision differs from that which it is a copy of; None if it is none."""
+        return next((changed for (_, one), changed in self._changed.items() if one == revision), None)
+
+
 class Objects:
     """What a session has of a repository's revisions, as its client knows it: a document for each file, named `prefix`, the name of the
     revision, a colon and the path. It sends nothing.
@@ -233,8 +258,10 @@ class Objects:
         self._copies = copies
         # revisions that were refused as copies: their files are put
         self._is_put: set[str] = set()
-        # the revisions that were copied in the last look, by that which they are copies of, with the paths in which the two differ
-        self._since: dict[str, dict[str, Collection[bytes]]] = collections.defaultdict(dict)
+        # of these the next look puts all files
+        self._anew: set[str] = set()
+        # the copies since refusals were taken last, and those before that may have been sent only then
+        self._copied, self._copied_before = _Copies(), _Copies()
         self.store = store
         self.root = store.path
         self.prefix = names.to_bytes(prefix)
@@ -258,7 +285,8 @@ class Objects:
         self.left_out.clear()
         self.held.clear()
         self._is_put.clear()
-        self._since.clear()
+        self._anew.clear()
+        self._copied, self._copied_before = _Copies(), _Copies()
         self._bytes = 0
         self._new.clear()
 
@@ -274,9 +302,11 @@ class Objects:
     def steps(self) -> Iterator[Step]:
         """Looks at the revisions, and gives what makes the session's documents those of their commits now."""
         began, stamp, wanted = time.time_ns(), self.store.stamp(), self.wanted
-        if (stamp, wanted) == self._seen:
+        if (stamp, wanted) == self._seen and not self._anew:
             return
-        self._since.clear()
+        for revision in self._anew:
+            self.commits.pop(revision, None)
+        self._anew.clear()
         now = self.store.commits(wanted)
         gone = [one for one in self.held if one not in now]
         removed = {revision: self._removed(revision) for revision in gone}
@@ -332,7 +362,7 @@ class Objects:
         start, from_start = self._start(revision), self._start(base)
         held = self.held[revision] = dict(self.held[base])
         self._bytes += sum(held.values())
-        self._since[base][revision] = changed.keys()
+        self._copied.add(base, revision, changed.keys())
         for name, reason in [pair for pair in self.left_out.items() if pair[0].startswith(from_start)]:
             if (path := name.removeprefix(from_start)) not in changed:
                 self._leave_out(start + path, reason)
@@ -440,8 +470,9 @@ class Objects:
             self.left_out[name] = reason
             self._news.append(LeftOut(name, reason))
 
-    def take_refusals(self, refused: tuple[ChangeRefused, ...]) -> list[bytes]:
-        """Takes what a publish says was refused. The documents to remove: the session has an older body of each."""
+    def take_refusals(self, refused: tuple[ChangeRefused, ...], are_sent: bool = True) -> list[bytes]:
+        """Takes what a publish says was refused, or with `are_sent` false what is refused while some of the steps given are not yet sent. The
+        documents to remove: the session has an older body of each."""
         stale = []
         for refusal in refused:
             name = refusal.name.removeprefix(self.prefix)
@@ -452,7 +483,7 @@ class Objects:
                 self._take_refused_copy(revision)
             elif path in self.held[revision]:
                 is_stale = name not in self._new
-                for one in (revision, *self._copies_of(revision, path)):
+                for one in (revision, *self._copied.of(revision, path)):
                     own = self._start(one) + path
                     if is_stale:
                         stale.append(self.prefix + own)
@@ -461,18 +492,17 @@ class Objects:
                         self._leave_out(own, called(refusal.reason))
                     else:
                         self._put_anew(one)
+                for one in self._copied_before.of(revision, path):
+                    self._put_anew(one)
         self._new.clear()
+        self._copied_before = _Copies() if are_sent else self._copied_before.and_more(self._copied)
+        self._copied = _Copies()
         return stale
-
-    def _copies_of(self, revision: str, path: bytes) -> list[str]:
-        """The revisions that have a document by a copy of the last look."""
-        copies = self._since.get(revision, {})
-        return [one for one, changed in copies.items() if path not in changed and path in self.held.get(one, {})]
 
     def _take_refused_copy(self, revision: str) -> None:
         """The session has refused to make a revision a copy: it has the files alone that were put then."""
         held = self.held[revision]
-        changed = next((copies[revision] for copies in self._since.values() if revision in copies), held)
+        changed = next((paths for copies in (self._copied, self._copied_before) if (paths := copies.changed(revision)) is not None), held)
         for path in [path for path in held if path not in changed]:
             self._drop(self._start(revision) + path)
         self._put_anew(revision)
@@ -480,8 +510,8 @@ class Objects:
     def _put_anew(self, revision: str) -> None:
         """The next look puts all files of a revision, which is no copy any more."""
         self._is_put.add(revision)
+        self._anew.add(revision)
         self.commits.pop(revision, None)
-        self._seen = None
 
     def is_new(self, name: bytes) -> bool:
         """Whether the document of a step is new to the session."""
