@@ -570,8 +570,10 @@ class Revisions(Kept):
     prefix: what the names of its documents begin with. Then come the revision, a colon and the path, as in `git show main:src/a.c`.
     progress: is called with the number of changed files that are sent, and of all.
 
-    A look costs the files in which a revision differs from its commit before, however far it moves. Left out are submodules, symbolic links,
-    and each file that can be no document, as for `tsearch.Folder`. `NoRepository` if there is no repository.
+    A look costs the files in which a revision differs from its commit before, however far it moves; for one that comes, those in which it
+    differs from the first one, if more of that one's files stay than go. Left out are submodules, symbolic links, and each file that can be
+    no document, as for `tsearch.Folder`. Where the session refuses to copy a revision, `commits` lacks it until the next look, which puts its
+    files. `NoRepository` if there is no repository.
     """
 
     def __init__(
