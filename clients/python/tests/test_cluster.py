@@ -10,6 +10,7 @@ import os
 import pathlib
 import random
 import re
+import shutil
 import signal
 import subprocess
 import sys
@@ -19,6 +20,7 @@ import unittest.mock
 import zlib
 
 from helpers import PACKAGE, SECONDS, Model, found_in, shown, stop, stopped, until
+from made import Made
 from serving import DOCUMENTS, free_port, serving
 
 import tsearch
@@ -125,6 +127,22 @@ class Clusters(unittest.IsolatedAsyncioTestCase):
                 under = _Under(b"a", 3)
                 told = [under.told(reason and tsearch.ChangeRefused(reason, b"a")) for reason in reasons]
                 self.assertEqual([one and one.reason for one in told], [None, None, "full"])
+
+    @unittest.skipUnless(shutil.which("git"), "the command git is missing")
+    async def test_revisions(self) -> None:
+        """A branch that comes is put, since a shard cannot copy what is in another one."""
+        from tsearch import aio
+
+        made = Made(pathlib.Path(self.enterContext(tempfile.TemporaryDirectory())) / "made.git")
+        made.commit("main", {b"%d.c" % number: b"int n%d;\n" % number for number in range(20)})
+        revisions = aio.Revisions(self.cluster, made.path, ["main", "*"])
+        async with asyncio.timeout(SECONDS):
+            for branch in "topic", "other":
+                await revisions.refresh()
+                made.commit(branch, {branch.encode(): b"int new;\n", b"1.c": None}, start="main")
+            self.assertEqual((await revisions.refresh())[:2], (20, 0))
+            names = {f"{branch}:".encode() + path for branch, files in made.files.items() for path in files}
+            self.assertEqual({hit.name for hit in await self.cluster.find("int")}, names)
 
     async def test_refusals_of_a_look_that_fails(self) -> None:
         """As in one session: they are told to the source whose they are, unless what was refused has changed since."""

@@ -551,11 +551,19 @@ class Revisions(unittest.TestCase):
                 self.assertEqual((refreshed.put, refreshed.removed), (1, 0))
                 self.assertLess(time.monotonic() - began, 10)
                 self.assertEqual([hit.text for hit in await session.find("int other")], [b"int other;"])
+                # a branch that comes is a copy
+                made.commit("topic", {b"src/x.c": b"int x;\n", b"README": None}, start="main")
+                revisions.objects.wanted = ("main", "*")
+                accepted = (await session.status()).accepted
+                self.assertEqual((await revisions.refresh())[:2], (len(FILES) + 1, 1))
+                self.assertEqual((await session.status()).accepted - accepted, 3)
+                self.assertEqual({hit.name for hit in await session.find("")}, named(made, "main", "topic").keys())
                 session.kill()
                 with self.assertRaises(tsearch.Ended):
                     await revisions.refresh()
                 await revisions.restart()
-                self.assertEqual(len(await session.find("int other")), 1)
+                self.assertEqual((await session.status()).accepted, len(FILES) + 3)
+                self.assertEqual({hit.name for hit in await session.find("")}, named(made, "main", "topic").keys())
 
         asyncio.run(run())
 
