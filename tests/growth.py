@@ -322,6 +322,12 @@ def copies_under_a_prefix(n):
     return after(published(n), b"copyunder f g\npublish\ncopyunder f g\npublish\n")
 
 
+def copies_over_others(n):
+    """Those go that had the names before, in the order of their names, which is not that in which they came."""
+    others = b"".join(put(b"g%d" % number, own_body(b"one abcd two hijk", n + number)) for number in range(n))
+    return after(others + published(n), b"copyunder f g\npublish\npublish\n")
+
+
 def removes_under_one_prefix_after_another(n):
     """As many commands as documents, each of which removes one: those with longer names went before."""
     return after(published(n), b"".join(b"removeunder f%d\n" % number for number in reversed(range(n))) + b"publish\n")
@@ -652,6 +658,7 @@ GROWTHS = [
     Row(removes_under_a_prefix, 500),
     Row(removes_under_one_prefix_after_another, 500, BOTH, 5.5),
     Row(copies_under_a_prefix, 500),
+    Row(copies_over_others, 500, BOTH, 5.5),
     Row(puts_and_removes, 500),
     Row(publishes_of_nothing, 1000),
     Row(searches, 500),
