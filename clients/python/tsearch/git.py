@@ -250,8 +250,8 @@ class Objects:
     """What a session has of a repository's revisions, as its client knows it: a document for each file, named `prefix`, the name of the
     revision, a colon and the path. It sends nothing.
 
-    copies: whether a revision that comes begins as a copy of the documents of the first one, if most of them stay, and then costs the files
-        in which the two differ. A cluster cannot copy.
+    copies: whether a revision that comes begins as a copy of the documents of the first one, if more of them stay than go, and then costs
+        the files in which the two differ. A cluster cannot copy.
     """
 
     def __init__(self, store: Store, wanted: Sequence[str], prefix: str | bytes = b"", *, copies: bool = False) -> None:
