@@ -11,7 +11,7 @@ returns-in-Err-clause-entry c line = named_fault c.args.longest c.in-Err.error c
 pub returns-in-Err-within-clause-entry : goal.returns-in-Err-within-clause-entry
 returns-in-Err-within-clause-entry c line =
     named c.in-Ok.ensures.name.1
-    (named_fault c.args.longest c.in-Err-within.error c.args.to.now line _ _ c.in-Err-within.ensures.fault (ap (Refused line) c.reason_of_name-in-Err.ensures))
+    (named_fault c.args.longest c.in-Err-within.error c.args.to.now line _ _ c.in-Err-within.ensures.fault (ap (Refused line) c.reason_of_name-in-Err-within.ensures))
 
 pub returns-in-Ok-within-clause-entry : goal.returns-in-Ok-within-clause-entry
 returns-in-Ok-within-clause-entry c line =
