@@ -5,7 +5,8 @@ ghost use Rattle.index.specs.declared.command.Command.{Command as CommandValue};
 ghost use Rattle.index.specs.Documents.{Document, RisesByName, listed, documents_of, IsPutLast};
 ghost use Rattle.index.specs.State.{State, state_of, applied};
 
-/// The documents are exactly the last `Put`s of names, on which no later command bears, each once: see `IsPutLast`.
+/// The documents are exactly the last `Put`s of names, and copies of what such `Put`s had left, on which no later command bears, each
+/// once: see `IsPutLast`.
 pub fn documents_are_puts()
     ensures which { (commands : List CommandValue) (d : Document) →
         Contains (listed (documents_of commands)) d ↔ IsPutLast commands d.name d.body }

@@ -6,7 +6,7 @@ use Rattle.index.specs.Documents.{IsPutLast}
 use Rattle.prepare.specs.Pattern.{Admits, Passes, Pattern}
 use Rattle.views.specs.Found.{Hit}
 
--- The pattern asks for this line of the last Put of its name, which no later command names.
+-- The pattern asks for this line of the last Put of its name, or of a copy, on which no later command bears.
 pub record IsHitOfPut (commands : List Command) (pattern : Pattern) (found : Hit) : Type 0 where
   pub body : List ℕ
   pub put : IsPutLast commands found.name body

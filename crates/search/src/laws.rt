@@ -12,7 +12,7 @@ ghost use Rattle.search.specs.Laws.{AnswersAreOne, ShownAreOne, TimesShowNothing
 use spans::one_list_of_spans;
 
 /// The answer for the state that commands leave follows from the commands: its version is their number, and its hits
-/// are exactly the lines that the pattern asks for in the last `Put` of each name, if no later command names it.
+/// are exactly the lines that the pattern asks for in the last `Put` of each name or in a copy, if no later command bears on it.
 pub fn answers_follow_commands()
     ensures version { (commands : List CommandValue) (pattern : Pattern) (answer : Answer) →
         IsAnswerOf (state_of commands) pattern answer → answer.version ≡ length commands }
