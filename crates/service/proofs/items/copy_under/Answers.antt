@@ -8,8 +8,8 @@ use Rattle.service.proofs.items.copy_under.Goals as goal
 pub returns-in-Err-clause-entry : goal.returns-in-Err-clause-entry
 returns-in-Err-clause-entry c line = named_fault c.args.longest c.in-Err.error c.args.from.now line _ _ c.in-Err.ensures.fault (ap (Refused line) c.reason_of_name.ensures)
 
-pub returns-in-Err-within-clause-entry : goal.returns-in-Err-within-clause-entry
-returns-in-Err-within-clause-entry c line =
+pub returns-clause-entry : goal.returns-clause-entry
+returns-clause-entry c line =
     named c.in-Ok.ensures.name.1
     (named_fault c.args.longest c.in-Err-within.error c.args.to.now line _ _ c.in-Err-within.ensures.fault (ap (Refused line) c.reason_of_name-in-Err-within.ensures))
 
