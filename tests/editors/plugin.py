@@ -194,6 +194,12 @@ def what_is_found_follows(place):
         neovim.until(lambda: len(neovim.quickfix()) == 0, "a list of nothing")
 
 
+def server_of(place):
+    """The process of the tree's server."""
+    (lock,) = pathlib.Path(place.environment["XDG_RUNTIME_DIR"], "tgrep").glob("*.lock")
+    return int(lock.read_text(encoding="ascii"))
+
+
 def a_killed_server_is_started_again(place):
     """The server, and its program, are killed while one types, and what is unsaved is found all the same."""
     name = place.files()[1]
@@ -201,8 +207,7 @@ def a_killed_server_is_started_again(place):
         neovim.command(f"edit {name}")
         neovim.type("ggOa_kept_line<Esc>:Tgrep<CR>a_kept")
         neovim.until(lambda: neovim.told() == "1 line", "an unsaved line")
-        (lock,) = pathlib.Path(place.environment["XDG_RUNTIME_DIR"], "tgrep").glob("*.lock")
-        server = int(lock.read_text(encoding="ascii"))
+        server = server_of(place)
         for child in pathlib.Path(f"/proc/{server}/task/{server}/children").read_text(encoding="ascii").split():
             os.kill(int(child), signal.SIGKILL)
         neovim.type("_line")
@@ -223,8 +228,7 @@ def a_server_is_killed_with_a_search(place):
         neovim.command(f"edit {name}")
         neovim.type("ggOa_kept_line<Esc>:Tgrep<CR>a_kept_line2")
         neovim.until(lambda: neovim.told() == "0 lines", "nothing")
-        (lock,) = pathlib.Path(place.environment["XDG_RUNTIME_DIR"], "tgrep").glob("*.lock")
-        server = int(lock.read_text(encoding="ascii"))
+        server = server_of(place)
         os.kill(server, signal.SIGSTOP)
         neovim.type("<BS>")
         neovim.until(lambda: neovim.lua("""
