@@ -27,3 +27,5 @@ pub mod RenamedLemmas
 pub mod CopyingLemmas
 pub mod CopiedLemmas
 pub mod MovedLemmas
+pub mod ApartLemmas
+pub mod PartLemmas

@@ -25,7 +25,9 @@ ghost use Rattle.index.specs.Private.Store.{stored, IsStore, HasPlaceFor};
 
 use crate::body::Body;
 use crate::by_name::sort_by_name;
-use crate::copying::{Leaves, copies_under, enter_all, leave_all, restore_all};
+use crate::copying::{
+    Leaves, Part, are_apart, copies_under, enter_all, leave_all, restore_all, some_copies,
+};
 use crate::document::SharedDocument;
 use crate::error::NameError;
 use crate::groups::{join, part, take_back};
@@ -80,6 +82,8 @@ pub(crate) struct Catalog {
     held_bytes: u64,
     /// By the hash of its body, the number of a content that perhaps has it. No contract depends on it.
     hints: BTreeMap<u64, u32>,
+    /// From which name on those are that a copy has still to go through, if it is carried out in parts. No contract depends on it.
+    copied: Option<Name>,
 }
 
 impl Model for Catalog {
@@ -106,6 +110,7 @@ impl Catalog {
             store: Store::new(alloc),
             held_bytes: 0,
             hints: BTreeMap::new(alloc),
+            copied: None,
         }
     }
 
@@ -116,7 +121,7 @@ impl Catalog {
         ensures err { OnErr result (self.new ≡ self.old) }
     {
         let old = self.number(name);
-        let is_put = self.put_copy(name, old, held, false)?;
+        let is_put = self.put_known(name, old, held, false)?;
         if is_put {
             return Ok(());
         }
@@ -130,12 +135,7 @@ impl Catalog {
         ensures err { OnErr result (self.new ≡ self.old) }
     {
         let old = self.number(name);
-        if let Some((own, like)) = self.own_beside_waiting(name, old, held) {
-            self.replace(own, name, held, false)?;
-            self.move_names(like, own);
-            return Ok(());
-        }
-        let is_put = self.put_copy(name, old, held, false)?;
+        let is_put = self.put_known(name, old, held, false)?;
         if is_put {
             return Ok(());
         }
@@ -150,7 +150,7 @@ impl Catalog {
     {
         self.start_over_if_too_much();
         let old = self.number(name);
-        let is_put = self.put_copy(name, old, held, true)?;
+        let is_put = self.put_known(name, old, held, true)?;
         if is_put {
             return Ok(());
         }
@@ -202,6 +202,29 @@ impl Catalog {
             Some(number) => self.replace(number, name, held, false),
             None => self.put_new(name, old, held, later),
         }
+    }
+
+    /// As `put_copy`, but if the name has a content of its own that is to keep its number, that one gets the body, and the names of the
+    /// other one.
+    fn put_known(
+        &mut self,
+        name: &Name,
+        old: Option<u32>,
+        held: &Held,
+        later: bool,
+    ) -> Result<bool, AllocError>
+        requires few { self.old.version + 1 < 2 ^ 32 }
+        requires old { old ≡ number_of name.now self.old.documents }
+        ensures put { IfOk result (λ is_put. is_put ≡ true → plain_state self.new ≡ applied (put_command name.now held.now) (plain_state self.old)) }
+        ensures none { IfOk result (λ is_put. is_put ≡ false → self.new ≡ self.old) }
+        ensures err { OnErr result (self.new ≡ self.old) }
+    {
+        if let Some((own, like)) = self.own_beside(name, old, held) {
+            self.replace(own, name, held, false)?;
+            self.move_names(like, own);
+            return Ok(true);
+        }
+        self.put_copy(name, old, held, later)
     }
 
     /// Applies the `Put` of a body that a content is known to have, under one more name, and returns whether there is one. If the
@@ -275,17 +298,19 @@ impl Catalog {
         Ok(())
     }
 
-    /// The content that has this name only, where `old` is the number under it, and another one that has this body and at most
-    /// `FEW_NAMES` names, if that one waits, and the first one does not. To change the sets of what little the body changes of the first
-    /// one, and have the names of the other one go over, takes less time than to take the first one out of the sets of its trigrams.
-    fn own_beside_waiting(&self, name: &Name, old: Option<u32>, held: &Held) -> Option<(u32, u32)>
+    /// The content that has this name only, where `old` is the number under it, and another one that has this body, if the first one is
+    /// to keep its number: where the other one waits, and the first one does not, to change its sets takes less time than to take it out
+    /// of all of them; and a small one that is older stays among those that came with it. The other one has at most `FEW_NAMES` names.
+    fn own_beside(&self, name: &Name, old: Option<u32>, held: &Held) -> Option<(u32, u32)>
         requires { old ≡ number_of name.now self.now.documents }
         ensures { IfSome result (λ found. IsOwn name.now found.0 self.now.documents) }
     {
         let own = self.own(name, old)?;
         let like = content_with(&self.hints, &self.store.slots, held)?;
         let sets = &self.store.sets;
-        if sets.has_waiting(own) || !sets.has_waiting(like) {
+        let is_quick = sets.has_waiting(like) && !sets.has_waiting(own);
+        let is_small = own < like && held.trigrams().size() <= FEW_BYTES;
+        if !is_quick && !is_small {
             return None;
         }
         if like == own || names_of(&self.groups, like) > FEW_NAMES {
@@ -504,6 +529,39 @@ impl Catalog {
         );
         self.held_bytes -= length as u64;
         true
+    }
+
+    /// As `Index::copy_some_under`.
+    pub(crate) fn copy_some_under(&mut self, from: &Name, to: &Name) -> bool
+        ensures same { applied (copy_under_command from.now to.now) (plain_state self.new) ≡ applied (copy_under_command from.now to.now) (plain_state self.old) }
+        ensures none { IsFalse result → (plain_state self.new ≡ plain_state self.old) }
+    {
+        if !are_apart(from, to) {
+            return false;
+        }
+        let alloc = *self.store.slots.allocator();
+        let first = first_left(&self.copied, from);
+        let Ok(part) = some_copies(alloc, &self.numbers, from, to, first) else {
+            return false;
+        };
+        let Part { copies, next, more } = part;
+        if !has_room(&self.numbers, copies.len()) {
+            return false;
+        }
+        let (count, held_bytes) = enter_all(
+            &mut self.numbers,
+            &mut self.groups,
+            &self.store,
+            &copies,
+            self.held_bytes,
+        );
+        let (hints, store) = (&mut self.hints, &mut self.store);
+        let done = &copies[..count];
+        leave_all(&mut self.groups, hints, store, done, Leaves::Old, true);
+        self.held_bytes = held_bytes;
+        let goes_on = more || count > 0;
+        self.copied = if goes_on { Some(next) } else { None };
+        goes_on
     }
 
     /// The version: the number of commands that were applied.
@@ -883,6 +941,14 @@ impl Catalog {
             return Err(AllocError);
         };
         push_document(name, number, &occupant.held, shared)
+    }
+}
+
+/// The name from which on a copy goes on, if that begins with `from`, and otherwise `from`.
+fn first_left<'a>(copied: &'a Option<Name>, from: &'a Name) -> &'a Name {
+    match copied {
+        Some(next) if next.as_bytes().starts_with(from.as_bytes()) => next,
+        _ => from,
     }
 }
 

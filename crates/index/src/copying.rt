@@ -1,6 +1,6 @@
 //! Copies of all documents whose names begin with a text: names that contents get, all of them or none.
 
-ghost use Rattle.std.specs.Prelude.{◌≡◌, ℕ, List, [], ◌∷◌, ◌≤◌, length, take, bytes_eq, if◌then◌else◌, IfOk, IfSome, OnOk, OnErr};
+ghost use Rattle.std.specs.Prelude.{◌≡◌, true, ℕ, List, [], ◌∷◌, ◌≤◌, length, take, bytes_eq, if◌then◌else◌, All, IfOk, IfSome, OnOk, OnErr, IsTrue};
 ghost use Rattle.std.specs.Ordering.{nat_cmp};
 ghost use Rattle.std.specs.Cmp.Lexicographic.{slice_cmp};
 ghost use Rattle.std.specs.BTreeMap.{IsOrdered, btree_map_len, get};
@@ -8,18 +8,32 @@ ghost use Rattle.std.specs.FinMap.{insert, remove};
 ghost use Rattle.prefixes.specs.Under.{begins_with};
 ghost use Rattle.index.specs.State.{body_bytes};
 ghost use Rattle.index.specs.Private.Contents.{AreGroupsOf, IsLeft, body_at, named};
-ghost use Rattle.index.specs.Private.Copying.{copied, copies_in, is_new, is_named, left_by, restored, number_again, IsFree, IsEntered, AreLeft};
+ghost use Rattle.index.specs.Private.Copying.{copied, copies_in, is_new, is_named, left_by, restored, number_again, AreApart, IsCopy, IsFree, IsEntered, AreLeft};
 ghost use Rattle.index.specs.Private.Plain.{plain_documents};
 ghost use Rattle.index.specs.Private.Slots.{documents_in, RiseTo};
 ghost use Rattle.index.specs.Private.Store.{stored, IsStore};
 
 use crate::catalog::{enter_copy, leave, length_at};
+use crate::moving::has_number;
 use crate::name::Name;
 use crate::slots::{Slot, occupant_at};
 use crate::store::Store;
 use std::alloc::{AllocError, Global};
 use std::collections::{BTreeMap, BTreeSet};
 use std::ops::Bound;
+
+/// How many names are gone through for one part of a copy.
+const AT_ONCE: usize = 512;
+
+/// A part of the names that contents get.
+#[derive(Drop)]
+pub(crate) struct Part {
+    pub(crate) copies: Vec<Copied>,
+    /// Where the next part begins. It is the same part again if there are no more, to see that none is left of it.
+    pub(crate) next: Name,
+    /// Whether there are more names.
+    pub(crate) more: bool,
+}
 
 /// A name that the content with this number gets, and the number that the name had.
 #[derive(Drop)]
@@ -59,6 +73,70 @@ pub(crate) fn copies_under(
         }
     }
     Ok(copies)
+}
+
+/// The names that begin with `to` in place of `from`, for some of the names that begin with `from`: the first `AT_ONCE` from `first` on.
+/// An `Err` means that memory ran out, that one would be too long, or that a name has too many handles.
+pub(crate) fn some_copies(
+    alloc: Global,
+    numbers: &BTreeMap<Name, u32>,
+    from: &Name,
+    to: &Name,
+    first: &Name,
+) -> Result<Part, AllocError>
+    ensures { IfOk result (λ part. All (IsCopy from.now to.now numbers.now) part.copies.items) }
+{
+    let mut copies = Vec::new(alloc);
+    let mut passed = 0usize;
+    for (name, number) in numbers.range((Bound::Included(first), Bound::Unbounded)) {
+        if !begins(name, from) {
+            return part_of(copies, first, false);
+        }
+        if passed >= AT_ONCE {
+            return part_of(copies, name, true);
+        }
+        passed += 1;
+        add_copy(alloc, numbers, from, to, name, *number, &mut copies)?;
+    }
+    part_of(copies, first, false)
+}
+
+fn part_of(copies: Vec<Copied>, next: &Name, more: bool) -> Result<Part, AllocError>
+    ensures { IfOk result (λ part. part.copies ≡ copies) }
+{
+    let next = next.share()?;
+    Ok(Part { copies, next, more })
+}
+
+/// Adds the name with `to` in place of `from`, for the content with this number, which the name has, unless that name has the content
+/// already.
+fn add_copy(
+    alloc: Global,
+    numbers: &BTreeMap<Name, u32>,
+    from: &Name,
+    to: &Name,
+    name: &Name,
+    number: u32,
+    copies: &mut Vec<Copied>,
+) -> Result<(), AllocError>
+    requires { begins_with from.now name.now ≡ true }
+    ensures { OnOk result (All (IsCopy from.now to.now numbers.now) copies.old.items → All (IsCopy from.now to.now numbers.now) copies.new.items) }
+{
+    if !has_number(numbers, name, number) {
+        return Ok(());
+    }
+    let copy = copy_of(alloc, numbers, from, to, name, number)?;
+    if is_new(&copy) {
+        copies.push(copy)?;
+    }
+    Ok(())
+}
+
+/// Whether no name begins with both texts, since neither text begins with the other.
+pub(crate) fn are_apart(from: &Name, to: &Name) -> bool
+    ensures { IsTrue result → AreApart from.now to.now }
+{
+    !begins(from, to) && !begins(to, from)
 }
 
 /// Whether the name begins with the prefix.

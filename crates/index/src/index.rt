@@ -244,6 +244,17 @@ impl Index {
         taken
     }
 
+    /// Copies some hundreds of the documents that the `CopyUnder` of these texts would copy, if no name can begin with both, and returns
+    /// whether it is to be called again. It is no command: the version stays. So a `CopyUnder` can be carried out in pieces: after some
+    /// documents were copied, it leaves what it would have left before. `false` does not say that all are copied: memory can have run
+    /// out, too.
+    pub fn copy_some_under(&mut self, from: &Name, to: &Name) -> bool
+        ensures same { applied (copy_under_command from.now to.now) self.new ≡ applied (copy_under_command from.now to.now) self.old }
+        ensures none { IsFalse result → self.new ≡ self.old }
+    {
+        self.catalog.copy_some_under(from, to)
+    }
+
     /// The version: the number of commands that were applied.
     pub fn version(&self) -> u32
         ensures version { result ≡ self.now.version }

@@ -94,7 +94,7 @@ fn add_move(
 }
 
 /// Whether the name has this number.
-fn has_number(numbers: &BTreeMap<Name, u32>, name: &Name, number: u32) -> bool
+pub(crate) fn has_number(numbers: &BTreeMap<Name, u32>, name: &Name, number: u32) -> bool
     ensures { result ≡ is_number number (get (slice_cmp nat_cmp) numbers.now name.now) }
 {
     match numbers.get(name) {

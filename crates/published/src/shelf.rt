@@ -16,6 +16,9 @@ use std::thread::Threads;
 /// How much work an operation without a body is, in bytes of bodies.
 const LEAST_WORK: usize = 256;
 
+/// The work of a part of a copy, in bytes of bodies: half of a piece.
+const COPIES: usize = 32_768;
+
 /// When the sets of its trigrams change for a document that is put or removed.
 #[derive(Clone, Copy)]
 pub(crate) enum Way {
@@ -143,23 +146,31 @@ impl Shelf {
         Ok(taken.saturating_add(brought).saturating_add(LEAST_WORK))
     }
 
-    /// Carries out a part of the operation, if it is a remove of all names under a prefix and there is such a name: takes out
-    /// one document. Returns about how much work that was. The operation still has to be carried out, and then does what it would
-    /// have done before.
+    /// Carries out a part of the operation, if it is a remove of all names under a prefix and there is such a name, or a copy of them:
+    /// takes out one document, or copies some hundreds. Returns about how much work that was. The operation still has to be carried
+    /// out, and then does what it would have done before.
     pub(crate) fn carry_out_part(&mut self, operation: &Operation) -> Option<usize>
         ensures part { operated self.new operation.now ≡ operated self.old operation.now }
         ensures work { IfSome result (λ work. 0 < work) }
         ensures none { IfNone result (self.new ≡ self.old) }
     {
-        let Operation::Change(Update::RemoveUnder(prefix)) = operation else {
-            return None;
-        };
-        let before = self.index.held_bytes();
-        if !self.index.take_one_under(prefix) {
-            return None;
+        match operation {
+            Operation::Change(Update::RemoveUnder(prefix)) => {
+                let before = self.index.held_bytes();
+                if !self.index.take_one_under(prefix) {
+                    return None;
+                }
+                let bytes = before.saturating_sub(self.index.held_bytes());
+                Some(LEAST_WORK.saturating_add(bytes as usize))
+            }
+            Operation::Change(Update::CopyUnder(from, to)) => {
+                if !self.index.copy_some_under(from, to) {
+                    return None;
+                }
+                Some(COPIES)
+            }
+            _ => None,
         }
-        let bytes = before.saturating_sub(self.index.held_bytes());
-        Some(LEAST_WORK.saturating_add(bytes as usize))
     }
 
     /// Says whether `fill` or `fill_some` follows. If so, removes and replacements may have all documents wait for it, where that takes

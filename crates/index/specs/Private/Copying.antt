@@ -26,6 +26,17 @@ is_new c = not (is_number c.number c.old)
 abbrev pub copies_in : List ℕ → List ℕ → BTreeMap (List ℕ) ℕ → List (List ℕ × ℕ) → List Copied
 copies_in from to numbers entries = filter is_new (map (copied from to numbers) (filter (λ e. begins_with from e.0) entries))
 
+-- one of those: the name begins with `to`, and the content is that of the same name with `from` in its place
+pub record IsCopy (from to : List ℕ) (numbers : BTreeMap (List ℕ) ℕ) (c : Copied) : Type 0 where
+  pub begins : begins_with to c.name ≡ true
+  pub source : get (slice_cmp nat_cmp) numbers (renamed to from c.name) ≡ Some c.number
+  pub was : c.old ≡ get (slice_cmp nat_cmp) numbers c.name
+  pub other : is_number c.number (get (slice_cmp nat_cmp) numbers c.name) ≡ false
+
+-- No name begins with both.
+abbrev pub AreApart : List ℕ → List ℕ → Type 0
+AreApart from to = (q : List ℕ) → begins_with from q ≡ true → begins_with to q ≡ true → ⊥
+
 -- whether it is the name of one of these
 abbrev pub is_among : List ℕ → List Copied → Bool
 is_among q cs = list_any (λ c. bytes_eq c.name q) cs

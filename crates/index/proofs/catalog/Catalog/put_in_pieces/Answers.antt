@@ -7,8 +7,8 @@ use Rattle.index.specs.Private.Plain.{plain_state}
 use Rattle.index.proofs.LeaveLemmas.{on_err}
 use Rattle.index.proofs.catalog.Catalog.put_in_pieces.Goals as goal
 
-pub put_copy-requires-clause-few : goal.put_copy-requires-clause-few
-put_copy-requires-clause-few c = omega (arith, c.requires, ap (λ s. s.version) c.start_over_if_too_much.ensures)
+pub put_known-requires-clause-few : goal.put_known-requires-clause-few
+put_known-requires-clause-few c = omega (arith, c.requires, ap (λ s. s.version) c.start_over_if_too_much.ensures)
 
 pub returns-in_err-is_put-clause-err : goal.returns-in_err-is_put-clause-err
 returns-in_err-is_put-clause-err c = on_err c.from_residual.result (c.in_err-is_put.ensures.err ∙ c.start_over_if_too_much.ensures)
