@@ -35,7 +35,7 @@ use crate::held::{Held, hash_of};
 use crate::moving::moves_between;
 use crate::name::{MAX_NAME, Name};
 use crate::sets::FEW_BYTES;
-use crate::slots::{Occupant, Slot, occupant_at};
+use crate::slots::{Occupant, Slot, occupant_at, occupant_near};
 use crate::store::Store;
 use posting::{Lookup, Trigrams};
 use prefixes::Prefixes;
@@ -801,17 +801,19 @@ impl Catalog {
         let numbers = chosen.numbers();
         let mut shared = Vec::with_capacity(alloc, chosen.len())?;
         let mut pace = Pace::each(DOCUMENTS);
+        let mut near = 0;
         for number in numbers {
             pace.look(watch)?;
-            self.add_if_under(number, prefixes, &mut shared, &mut pace, watch)?;
+            self.add_if_under(number, &mut near, prefixes, &mut shared, &mut pace, watch)?;
         }
         Ok(shared)
     }
 
-    /// Adds the documents that have this number and whose names begin with one of the prefixes.
+    /// Adds the documents that have this number, whose slot may be at the place `near`, and whose names begin with one of the prefixes.
     fn add_if_under<W: Watch>(
         &self,
         number: u32,
+        near: &mut usize,
         prefixes: &Prefixes,
         shared: &mut Vec<SharedDocument>,
         pace: &mut Pace,
@@ -821,7 +823,7 @@ impl Catalog {
             ≡ documents_shared shared.old.items ++ filter (is_under_any prefixes.now) (document_numbered self.now.documents number)) }
         ensures called_off { IfErr result (IsCalledOffOnlyIf (W.has_said_no watch.new)) }
     {
-        let Some(occupant) = occupant_at(&self.store.slots, number) else {
+        let Some(occupant) = occupant_near(&self.store.slots, near, number) else {
             return Ok(());
         };
         match self.groups.get(&number) {
@@ -911,6 +913,8 @@ impl Catalog {
     {
         let mut shared = room;
         let mut pace = Pace::each(DOCUMENTS);
+        // documents that came one after the other have slots side by side
+        let mut near = 0;
         for (name, number) in self.numbers.range((first.as_ref(), Bound::Unbounded)) {
             pace.look(watch)?;
             if shared.len() >= most {
@@ -920,24 +924,25 @@ impl Catalog {
                 return Ok(shared);
             }
             if among.has(*number) {
-                self.add(name, *number, &mut shared)?;
+                self.add(name, *number, &mut near, &mut shared)?;
             }
         }
         Ok(shared)
     }
 
-    /// Adds the document with this name, which has the content with this number.
+    /// Adds the document with this name, which has the content with this number. Its slot may be at the place `near`.
     fn add(
         &self,
         name: &Name,
         number: u32,
+        near: &mut usize,
         shared: &mut Vec<SharedDocument>,
     ) -> Result<(), AllocError>
         requires { number_of name.now self.now.documents ≡ Some number }
         ensures { OnOk result (documents_shared shared.new.items
             ≡ documents_shared shared.old.items ++ document_named self.now.documents name.now) }
     {
-        let Some(occupant) = occupant_at(&self.store.slots, number) else {
+        let Some(occupant) = occupant_near(&self.store.slots, near, number) else {
             return Err(AllocError);
         };
         push_document(name, number, &occupant.held, shared)

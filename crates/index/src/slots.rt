@@ -39,6 +39,20 @@ pub(crate) fn occupant_at(slots: &[Slot], number: u32) -> Option<&Occupant>
     }
 }
 
+/// The same, found at once if it is at the place `near`, which becomes the place behind it.
+pub(crate) fn occupant_near<'a>(
+    slots: &'a [Slot],
+    near: &mut usize,
+    number: u32,
+) -> Option<&'a Occupant>
+    requires { (last : ℕ) × RiseTo last slots.now }
+    ensures { option_map (λ e. texts_of e.now) result ≡ document_at number (documents_in slots.now) }
+{
+    let place = place_near(slots, *near, number)?;
+    *near = place.wrapping_add(1);
+    slots[place].occupant.as_ref()
+}
+
 /// The number of the first slot whose number is not below this one, if there is one. The slot may be empty.
 pub(crate) fn number_from(slots: &[Slot], first: u32) -> Option<u32>
     requires { (last : ℕ) × RiseTo last slots.now }
@@ -109,6 +123,22 @@ pub(crate) fn give_back(slots: &mut Vec<Slot>)
     if slots.len() < slots.capacity() / 4 {
         slots.shrink_to_fit();
     }
+}
+
+/// The place of the slot with this number, if there is one, which may be the place `near`.
+fn place_near(slots: &[Slot], near: usize, number: u32) -> Option<usize>
+    requires { (last : ℕ) × RiseTo last slots.now }
+    ensures some { IfSome result (λ place. (place < length slots.now)
+        × ((slot : SlotValue) → (slice_index_or slots.now place slot).number ≡ number)) }
+    ensures none { IfNone result (All (λ s. s.number ≢ number) slots.now) }
+{
+    if near < slots.len() {
+        let slot = &slots[near];
+        if slot.number == number {
+            return Some(near);
+        }
+    }
+    place_of(slots, number)
 }
 
 /// The place of the slot with this number, if there is one.

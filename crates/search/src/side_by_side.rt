@@ -158,6 +158,33 @@ fn gather_parts<R: Threads + Sync, W: Watch + Copy + Send>(
     join_parts(alloc, wanted, found, fitting)
 }
 
+/// Drops the documents, in so many parts, each in a thread of its own where one can be started. Of many documents each handle is some
+/// way from the others in memory.
+#[cycle(drop_by_parts)]
+pub(crate) fn drop_by_parts<R: Threads + Sync>(
+    rt: &R,
+    documents: Vec<SharedDocument>,
+    parts: usize,
+) {
+    let mut first = documents;
+    if parts < 2 || first.len() < DOCUMENTS {
+        return;
+    }
+    let low = parts / 2;
+    let high = parts - low;
+    let at = first.len() / parts * low;
+    let Ok(others) = first.split_off(at) else {
+        return;
+    };
+    let front = move || -> ()
+        requires { IsSync R.row }
+    { drop_by_parts(rt, first, low) };
+    let back = move || -> ()
+        requires { IsSync R.row }
+    { drop_by_parts(rt, others, high) };
+    let _ = join(rt, front, back);
+}
+
 /// What is shown of these documents in one part, with about `ahead` bytes of text.
 ///
 /// `CalledOff` is returned once `watch` says that the answer is not wanted. `OutOfMemory` means that memory ran out, or

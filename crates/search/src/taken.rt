@@ -13,7 +13,7 @@ ghost use Rattle.search.specs.Taken.{IsTakenOf};
 use crate::gathered::{Wanted, gather};
 use crate::known::{Known, know, know_side_by_side};
 use crate::names::named;
-use crate::side_by_side::{Joined, gather_part, gather_side_by_side};
+use crate::side_by_side::{Joined, drop_by_parts, gather_part, gather_side_by_side};
 use index::{Candidates, Index, SharedDocument};
 use prefixes::Prefixes;
 use prepare::{Prepared, front_of};
@@ -243,6 +243,7 @@ impl Taken<'_> {
         let known = know_side_by_side(rt, alloc, &wanted, kept.as_slice(), most, watch)?;
         let wanted = with_known(&wanted, &known);
         let joined = gather_side_by_side(rt, alloc, &wanted, kept.as_slice(), most, ahead, watch)?;
+        drop_by_parts(rt, kept, most);
         with_counts(
             alloc,
             self.prepared.view,
