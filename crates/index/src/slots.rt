@@ -48,9 +48,13 @@ pub(crate) fn occupant_near<'a>(
     requires { (last : ℕ) × RiseTo last slots.now }
     ensures { option_map (λ e. texts_of e.now) result ≡ document_at number (documents_in slots.now) }
 {
-    let place = place_near(slots, *near, number)?;
-    *near = place.wrapping_add(1);
-    slots[place].occupant.as_ref()
+    match place_near(slots, *near, number) {
+        Some(place) => {
+            *near = place.wrapping_add(1);
+            slots[place].occupant.as_ref()
+        }
+        None => None,
+    }
 }
 
 /// The number of the first slot whose number is not below this one, if there is one. The slot may be empty.
