@@ -55,7 +55,7 @@ def runs_over(small, large, more, headers):
         ("lists", [large]),
         ("trigrams", [headers]),
         ("readings", [small]),
-        ("preparing", []),
+        ("preparing", ["1"]),
         ("stack", []),
         ("levels", []),
         ("refused", [*trees, headers]),

@@ -26,7 +26,7 @@ import command
 import corpus
 import quiet
 
-CANCELS = 200
+CANCELS = 100
 # So many seconds of a search are its moments, if it takes as long.
 MOMENTS = 0.5
 MOST_TRIES = 4_000

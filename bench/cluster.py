@@ -1,7 +1,7 @@
 """What shards bring: python3 bench/cluster.py FOLDER [TURNS].
 
 Spreads the files of a folder over 1, 2 and 4 sessions on the workers of a Dask cluster of this machine (clients/python), beside one
-session without Dask, and prints for each, least / median of so many turns (5):
+session without Dask, and prints for each, least / median of so many turns (3):
 
 - the seconds from the first put until the publish of all files is carried out;
 - the milliseconds of a search for a rare word, for a common one and for a letter that is in most lines, from the call until the whole
@@ -151,7 +151,7 @@ def print_table(title, taken):
 
 def main():
     folder, *more = command.words(__doc__, 1, 2)
-    turns = int(more[0]) if more else 5
+    turns = int(more[0]) if more else 3
     build.need_program()
     if importlib.util.find_spec("distributed") is None:
         sys.exit("cluster.py: this Python has no module distributed; Debian's /usr/bin/python3 has that of python3-distributed")

@@ -36,7 +36,7 @@ def words_for(target, parts):
 
 def run(target, parts):
     words = words_for(target, parts)
-    return min((timed.run(words) for _ in range(5)), key=lambda r: r["seconds"])
+    return min((timed.run(words) for _ in range(3)), key=lambda r: r["seconds"])
 
 
 def memory(target, parts):
