@@ -497,6 +497,7 @@ impl Catalog {
             return Err(AllocError);
         }
         leave_all(&mut self.groups, hints, store, &copies, Leaves::Old, later);
+        self.copied = None;
         self.held_bytes = held_bytes;
         self.version += 1;
         Ok(())
