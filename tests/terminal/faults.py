@@ -400,6 +400,29 @@ def a_version_that_differs_restarts_it(place):
         raise Wrong("it is the same server")
 
 
+def a_program_that_is_compiled_first(place):
+    """As by the first call in a clone: the program is a new one once it runs, and the server stays."""
+    compiled = pathlib.Path(place.environment["HOME"], "compiled")
+    waits = f"while [ ! -e '{compiled}.go' ]; do sleep 0.05; done"
+    compiled.write_text(f"#!/bin/sh\ntouch -d 2001-01-01 \"$0\"\n{waits}\nexec '{place.program}' \"$@\"\n", encoding="ascii")
+    compiled.chmod(0o755)
+    place.environment["TSEARCH"] = str(compiled)
+    place.write("a", b"foo\n")
+    with concurrent.futures.ThreadPoolExecutor(2) as pool:
+        calls = [pool.submit(place.call, "foo")]
+        until(lambda: compiled.stat().st_mtime < 10**9)
+        server = place.server
+        calls.append(pool.submit(place.call, "foo"))
+        time.sleep(0.5)
+        pathlib.Path(f"{compiled}.go").touch()
+        for call in calls:
+            if call.result()[:2] != (0, b"a:1:foo\n"):
+                raise Wrong(str(call.result()))
+    place.wants(["foo"], 0, b"a:1:foo\n")
+    if place.server != server:
+        raise Wrong("it is another server")
+
+
 def a_program_that_is_named_wrongly(place):
     """What the variable TSEARCH names is found from the working folder, as a command too; what cannot be run is named."""
     place.write("a", b"foo\n")
@@ -830,6 +853,7 @@ TESTS = [
     a_server_ends_when_it_should,
     another_folder_of_the_same_name,
     a_version_that_differs_restarts_it,
+    a_program_that_is_compiled_first,
     a_program_that_is_named_wrongly,
     first_calls_at_once_make_one_server,
     others_are_kept_out,

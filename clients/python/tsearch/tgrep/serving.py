@@ -133,6 +133,7 @@ class Server:
 
     async def _load(self) -> None:
         await self._tree.load()
+        self._token = places.token()
         # what has changed meanwhile is looked for at once, so that the next call need not
         self._looking = asyncio.create_task(self._look())
 
@@ -220,7 +221,7 @@ class Server:
             return
         request = ast.literal_eval(line.decode())
         reply = Reply(writer, request["progress"])
-        if request["token"] != self._token or request["root"] != self._root or _identity_of(self._root) != self._identity or self._ending.is_set():
+        if not self._is_for(request["token"]) or request["root"] != self._root or _identity_of(self._root) != self._identity or self._ending.is_set():
             self._leave()
             reply.frame(DIFFERS, b"-")
             return
@@ -281,10 +282,16 @@ class Server:
 
     def admits(self, token: str) -> bool:
         """Whether the server is one for who has this token, if it is said; else it makes room for another."""
-        if self._ending.is_set() or (token and token != self._token):
+        if self._ending.is_set() or (token and not self._is_for(token)):
             self._leave()
             return False
         return True
+
+    def _is_for(self, token: str) -> bool:
+        """Whether who has this token has the same package and program. Until the tree is loaded, the program may be compiled first."""
+        if token != self._token and self._is_loading:
+            self._token = places.token()
+        return token == self._token
 
     def about(self) -> dict[str, object]:
         """The process, the calls, and the time since the start."""
