@@ -3,11 +3,13 @@
 from __future__ import annotations
 
 import asyncio
+import os
 import pathlib
 import shutil
 import tempfile
 import time
 import unittest
+import unittest.mock
 
 from helpers import TOP, found_in  # puts the package on the path of modules
 from made import Made
@@ -467,6 +469,10 @@ class Revisions(unittest.TestCase):
         for path in self.top, self.top / "none", self.top / "tree/.git/refs":
             with self.assertRaises(git.NoRepository):
                 git.Revisions(self.session, path)
+
+    def test_without_the_command_git(self) -> None:
+        with unittest.mock.patch.dict(os.environ, PATH=str(self.top)), self.assertRaisesRegex(git.NoRepository, "the command git is missing"):
+            git.Revisions(self.session, self.made.path, ["main"]).refresh()
 
     def test_nothing_of_a_repository_is_run(self) -> None:
         """Neither what its settings name, nor is anything fetched for it."""

@@ -78,7 +78,7 @@ class Store:
         try:
             done = subprocess.run([b"git", *words], input=stdin, capture_output=True, env=self._environment, cwd=self.folder, timeout=_GIT_TIME, check=False)
         except (OSError, subprocess.SubprocessError) as error:
-            raise NoRepository(f"{os.fsdecode(self.path)}: {error}") from None
+            raise NoRepository(f"{os.fsdecode(self.path)}: {not_run(error)}") from None
         if done.returncode not in (0, 1):
             message = done.stderr.decode(errors="replace").strip().rpartition("\n")[2]
             raise NoRepository(f"{os.fsdecode(self.path)}: {message or f'git ends with status {done.returncode}'}")
@@ -179,6 +179,11 @@ class Store:
             finally:
                 process.kill()
                 feeder.join()
+
+
+def not_run(error: OSError | subprocess.SubprocessError) -> str:
+    """Why the command git has not run to its end."""
+    return "the command git is missing (apt-get install git)" if getattr(error, "filename", None) in ("git", b"git") else str(error)
 
 
 def reason_of(entry: Entry | None) -> str:

@@ -16,7 +16,7 @@ from typing import Any
 from .. import aio
 from ..errors import Error
 from ..folder import BATCH, called, text_body, text_of
-from ..git import FILE_KINDS, NoRepository, Store
+from ..git import FILE_KINDS, NoRepository, Store, not_run
 from ..names import to_bytes
 from . import places
 from .answering import Call, Part, Reply
@@ -230,7 +230,7 @@ def _not_as_in(top: str, revision: str) -> list[bytes]:
             command = ["git", "-c", "core.fsmonitor=false", "-C", top, *words]
             done = subprocess.run(command, stdin=subprocess.DEVNULL, capture_output=True, env=environment, timeout=_GIT_TIME, check=False)
         except (OSError, subprocess.SubprocessError) as error:
-            raise NoRepository(f"git: {error}") from None
+            raise NoRepository(f"{top}: {not_run(error)}") from None
         if done.returncode:
             raise NoRepository(done.stderr.decode(errors="replace").strip())
         names.update(done.stdout.split(b"\0")[:-1])
