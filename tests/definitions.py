@@ -5,9 +5,9 @@ A public definition is one that is `pub` in a file of specs/ that is not Private
 explains it: a paragraph with the list after it has the name in code type, in a section whose title names the crate. If the name has
 several definitions or is an ordinary word, the file must stand there in code type too.
 
-Of the page, each file must be one of a crate that the section's title or the paragraph names, and each other name in code type must be in
-some source or spec. Its last section lists the names that have several definitions. --write writes that section; without --write it must
-be as --write would leave it.
+Of the page, each file must be one of a crate that the section's title or the paragraph names, and define the name that it stands right
+behind; each other name in code type must be in some source or spec. Its last section lists the names that have several definitions. --write
+writes that section; without --write it must be as --write would leave it.
 
 Usage: tests/definitions.py [--write]   The last line counts: N passed, M failed.
 """
@@ -25,6 +25,7 @@ CRATES = TOP / "crates"
 LAST = "Names with several definitions"
 BEGIN = re.compile(r"((?:  )?)((?:unfoldable|abbrev) |)pub (record |data |)([^\W\d][\w'-]*)")
 CODE = re.compile(r"`([^`\n]+)`")
+PLACED = re.compile(r"`([^`\s]+)(?: [^`\n]*)?` \(`([\w/]+\.antt)`")
 # what is written like a name of the specs, and not like an ordinary word
 NAME = re.compile(r"[A-Za-z][A-Za-z0-9]*_\w+|[A-Z][a-z0-9]*[A-Z]\w*")
 
@@ -78,6 +79,7 @@ class Block:
         self.files = {code for code in codes if code.endswith(".antt")}
         # of several words in code type the first is the name
         self.names = {code.split()[0] for code in codes} - self.files
+        self.placed = sorted({pair for line in lines for pair in PLACED.findall(line)})
 
     def explains(self, definition, alone):
         """Whether the definition is explained here; `alone` if its name needs no file beside it."""
@@ -133,8 +135,11 @@ def words_of(crate):
     return {word for path in paths for word in re.findall(r"\w+", path.read_text(encoding="utf-8"))}
 
 
-def faults_of_block(block):
+def faults_of_block(block, definitions):
     """Which names and files of a block are not there, or None for each that is."""
+    for name, file in block.placed:
+        there = any(definition.name == name and file in (definition.file, definition.below) for definition in definitions)
+        yield None if there else f"{block.place}: no file {file} defines `{name}`"
     for file in sorted(block.files):
         crates = [*block.crates, *block.names]
         there = (CRATES / file).is_file() or any((CRATES / crate / "specs" / file).is_file() for crate in crates)
@@ -166,7 +171,7 @@ def main():
                 f"in a section whose title names `{definition.crate}`"
             )
     for block in blocks:
-        counted.judge(faults_of_block(block))
+        counted.judge(faults_of_block(block, definitions))
     counted.judge(faults_of_last(last, expected))
     print(f"{len(definitions)} public definitions, {sum(not definition.comment for definition in definitions)} of them without a comment")
     counted.end()
