@@ -257,6 +257,11 @@ FINDS = [
     (b"find -C 1 -Z -- one_", found(b"lines 1 rows 2", b"b\x001-ONE", b"b\x002:one_"), found(b"lines 1 rows 2", B1, b"b\x002:one_")),
     (b"find -Z --column -- _", found(b"lines 1", b"b\x002:4:one_"), found(b"lines 1", b"b\x002\x004:one_")),
     (b"find -Z --spans -- _", found(b"lines 1", b"b\x002:4-4:one_")),
+    # a lane, which changes no answer and is taken as it is
+    (b"find --lane a -- one", ALL, found(b"lines 3", A1, A3, A7), found(b"lines 0")),
+    (b"find --lane -- -l -- one_", found(b"names 1", b"b"), found(b"lines 1", B2)),
+    (b"find -n b --lane -n -- one", found(b"lines 1", B2), ALL),
+    (b"find --lane " + b"x" * 64 + b" -i -- ONE_", found(b"lines 1", B2), found(b"lines 0")),
 ]
 
 # Lines of `find` that are refused, each with its reason: the first fault from the left, and then the patterns.
@@ -303,6 +308,13 @@ FIND_FAULTS = [
     (b"find --under --", b"no -- before the pattern"),
     (b"find --under a", b"no -- before the pattern"),
     (b"find --underneath a -- one", b"bad option --underneath"),
+    (b"find --lane", b"option --lane needs a word of 1 to 64 bytes"),
+    (b"find --lane  -- one", b"option --lane needs a word of 1 to 64 bytes"),
+    (b"find --lane " + b"x" * 65 + b" -z", b"option --lane needs a word of 1 to 64 bytes"),
+    (b"find --lane a --lane", b"option --lane twice"),
+    (b"find --lane a --lane  -- one", b"option --lane twice"),
+    (b"find --lane --", b"no -- before the pattern"),
+    (b"find --lane=a -- one", b"bad option --lane=a"),
     (b"find " + b"--under a " * 4097 + b"-- one", b"option --under over 4096 times"),
     (b"find " + b"--not-under a --under b " * 4096 + b"--not-under -z", b"option --not-under over 4096 times"),
     (b"find -n ( -- (", b"name pattern 1: group not closed at 0"),
@@ -360,6 +372,29 @@ LONG = b"put abc 9\n1234\n5678\nput abcd 1\nx\nput d 10\n12\n45\n78\n9\nput e 5\
 LENGTHS = transcripts.Lengths(3, 9, 4)
 LONG_REFUSED = [b"line 4 refused: name too long\n", b"line 6 refused: body too long\n", b"line 11 refused: line too long\n", b"line 13 refused: name too long\n"]
 LONG_FOUND = b"search 1 version 1 lines 2\nabc:1:1234\nabc:2:5678\n"
+
+# Copies under two names, one of which is removed later; a copy takes the place of a document, and none is copied again.
+COPIES = b"put a/x 1\nx\nput b/x 1\ny\nput b/z 1\nx\ncopyunder a/ b/\npublish\nsearch x\nsync\ncopyunder b/ b/b/\nremoveunder b/x\nremoveunder c\npublish\nsearch x\n"
+COPIED, NOT_UNDER = b"search 1 version 4 lines 3\na/x:1:x\nb/x:1:x\nb/z:1:x\n", b"line 13 refused: no such file\n"
+COPIED_LATER = b"search 2 version 6 lines 4\na/x:1:x\nb/b/x:1:x\nb/b/z:1:x\nb/z:1:x\n"
+NOT_COPIES = [
+    # a document under one of its two names, or as it was before the copy; a copy that is copied again, or is not there
+    b"search 1 version 4 lines 2\na/x:1:x\nb/z:1:x\n" + NOT_UNDER + COPIED_LATER,
+    b"search 1 version 4 lines 2\nb/x:1:x\nb/z:1:x\n" + NOT_UNDER + COPIED_LATER,
+    b"search 1 version 3 lines 2\na/x:1:x\nb/z:1:x\n" + NOT_UNDER + COPIED_LATER,
+    COPIED + NOT_UNDER + b"search 2 version 6 lines 5\na/x:1:x\nb/b/b/z:1:x\nb/b/x:1:x\nb/b/z:1:x\nb/z:1:x\n",
+    COPIED + NOT_UNDER + b"search 2 version 6 lines 3\na/x:1:x\nb/b/z:1:x\nb/z:1:x\n",
+    # a removed document, a removal of none, or more versions than commands
+    COPIED + NOT_UNDER + b"search 2 version 6 lines 5\na/x:1:x\nb/b/x:1:x\nb/b/z:1:x\nb/x:1:x\nb/z:1:x\n",
+    COPIED + COPIED_LATER,
+    COPIED + NOT_UNDER + COPIED_LATER.replace(b"version 6", b"version 7"),
+]
+
+# A search that shows its candidates and its times, in any number of microseconds; and what may not be in the place of these words.
+TIMED_TEXT = b"search 1 version 1 lines 1 candidates 1 of 1%s\na:1:one\n"
+SHOWN_TIMES = [b" waited 0 worked 12 by engine", b" waited 4294967296 worked 0 by simulation", b" waited 7 worked 7 by matcher"]
+NOT_TIMES = [b"", b" waited 0 worked 12", b" waited 0 worked 12 by hand", b" waited 00 worked 12 by engine", b" waited 0 worked  by engine", b" worked 12 waited 0 by engine"]
+TIMED = b"put a 3\none\npublish\nsearch one\n"
 
 # Scripts with their options, a text, and its status.
 LEGAL = [
@@ -523,9 +558,15 @@ WRONG = [
 ] + [(REFUSALS, {"max_commands": 1}, b"".join(REFUSED[:left_out] + REFUSED[left_out + 1 :]), 2) for left_out in range(len(REFUSED))]
 WRONG += [(STATUSES, {"max_commands": 5}, status_text(shown), 2) for shown in off_by_one()]
 
-LEGAL_FINDS, WRONG_FINDS = texts_of_finds()
-LEGAL += LEGAL_FINDS
-WRONG += WRONG_FINDS
+# What is legal, or wrong, of a run and of a session alike.
+LEGAL_ALIKE, WRONG_ALIKE = texts_of_finds()
+LEGAL_ALIKE.append((COPIES, {}, COPIED + NOT_UNDER + COPIED_LATER, 2))
+WRONG_ALIKE += [(COPIES, {}, text, 2) for text in NOT_COPIES]
+LEGAL_ALIKE += [(TIMED, {"stats": True, "times": True}, TIMED_TEXT % times, 0) for times in SHOWN_TIMES]
+WRONG_ALIKE += [(TIMED, {"stats": True, "times": True}, TIMED_TEXT % times, 0) for times in NOT_TIMES]
+WRONG_ALIKE.append((TIMED, {"stats": True}, TIMED_TEXT % SHOWN_TIMES[0], 0))
+LEGAL += LEGAL_ALIKE
+WRONG += WRONG_ALIKE
 
 
 # The same for sessions, whose answers come when they are there.
@@ -687,8 +728,8 @@ WRONG_SESSIONS = [
     (TWO_OPEN, {}, OPEN % (3, 2) + AT_0 % 2 + AT_0 % 1, 2),
 ]
 WRONG_SESSIONS += [(STATUSES, {"max_commands": 5}, status_text(shown), 2) for shown in off_by_one()]
-LEGAL_SESSIONS += LEGAL_FINDS
-WRONG_SESSIONS += WRONG_FINDS
+LEGAL_SESSIONS += LEGAL_ALIKE
+WRONG_SESSIONS += WRONG_ALIKE
 
 
 def judged_sessions():

@@ -4,21 +4,23 @@ A search is read once, with its options; or it is refused, with the first fault 
 are of one kind: `search`, `searchin`, `isearch` and `isearchin` have the options that a `find` could say in their place.
 """
 
+import collections
 import functools
 
 from judge import trees
 from judge.trees import Refused
 
-MOST_LINES, MOST_CONTEXT, MOST_NAMES, MOST_PREFIXES = 4_294_967_295, 1_000, 16, 4_096
+MOST_LINES, MOST_CONTEXT, MOST_NAMES, MOST_PREFIXES, MOST_LANE = 4_294_967_295, 1_000, 16, 4_096, 64
 
-# The options that take a word, those that take one of a byte or more, which names begin with, and those that take a number, with the least
-# and the greatest. The others take nothing.
+# The options that take a word, those that take one of a byte or more, which names begin with, the one that takes a short word, which no
+# answer shows, and those that take a number, with the least and the greatest. The others take nothing.
 WORDS = (b"-n", b"-N")
 PREFIXES = (b"--under", b"--not-under")
+LANE = b"--lane"
 NUMBERS = {b"-m": (1, MOST_LINES), b"-C": (0, MOST_CONTEXT)}
 MARKS = (b"--column", b"--spans")
 VIEWS = (b"-l", b"-c", b"-q", b"-C", *MARKS)
-OPTIONS = (b"-i", b"-F", b"-w", b"-x", b"-v", *WORDS, *PREFIXES, b"-I", b"-m", *VIEWS, b"-Z")
+OPTIONS = (b"-i", b"-F", b"-w", b"-x", b"-v", *WORDS, *PREFIXES, LANE, b"-I", b"-m", *VIEWS, b"-Z")
 
 # The words of the other searches: whether it has a name pattern, and whether it ignores case in its pattern.
 OTHERS = {b"search": (False, False), b"searchin": (True, False), b"isearch": (False, True), b"isearchin": (True, True)}
@@ -30,7 +32,7 @@ def exclude(one, other):
 
 def said(line):
     """The options of a `find` in their order, each with its word or number or None, and the pattern."""
-    left, options = line.removeprefix(b"find").removeprefix(b" "), []
+    left, options, counts = line.removeprefix(b"find").removeprefix(b" "), [], collections.Counter()
     while True:
         word, _, after = left.partition(b" ")
         if word == b"--":
@@ -38,7 +40,8 @@ def said(line):
         if not left:
             raise Refused("no -- before the pattern")
         left, value = after, None
-        check_option(word, [option for option, _ in options])
+        check_option(word, counts)
+        counts[word] += 1
         if word in WORDS:
             if not left:
                 raise Refused("no -- before the pattern")
@@ -47,6 +50,10 @@ def said(line):
             value, _, left = left.partition(b" ")
             if not value:
                 raise Refused(f"option {word.decode()} needs a word of 1 byte or more")
+        elif word == LANE:
+            value, _, left = left.partition(b" ")
+            if not 1 <= len(value) <= MOST_LANE:
+                raise Refused(f"option {LANE.decode()} needs a word of 1 to {MOST_LANE} bytes")
         elif word in NUMBERS:
             digits, _, left = left.partition(b" ")
             value = number_of(word, digits)
@@ -54,7 +61,7 @@ def said(line):
 
 
 def check_option(option, earlier):
-    """Refuses a word that is no option, and one that cannot come after these."""
+    """Refuses a word that is no option, and one that cannot come after these, of which it is given how often each was there."""
     shown = option.decode("latin-1")
     if option not in OPTIONS:
         raise Refused(f"bad option {shown}")
@@ -64,7 +71,7 @@ def check_option(option, earlier):
         if other != option and exclude(other, option):
             raise Refused(f"{other.decode()} and {shown} exclude each other")
     most = MOST_PREFIXES if option in PREFIXES else MOST_NAMES
-    if earlier.count(option) == most:
+    if earlier[option] == most:
         raise Refused(f"option {shown} over {most} times")
 
 
@@ -98,13 +105,18 @@ class Lines:
         return found
 
 
-@functools.lru_cache(1_000)
+@functools.lru_cache(2_000)
 def lines_of(body):
     return Lines(body)
 
 
+@functools.lru_cache(2_000)
+def text_of(line):
+    return trees.Text(line)
+
+
 class Test:
-    """Which lines have a match of a pattern, and where."""
+    """Which lines have a match of a pattern, and where. What was found in a body or a line is kept."""
 
     def __init__(self, pattern, ignores_case=False, is_literal=False, edge=None):
         self.tree, self.edge = trees.tree_of(pattern, ignores_case, is_literal), edge
@@ -136,10 +148,11 @@ class Test:
                 low = middle + 1
         return low
 
+    @functools.lru_cache(10_000)
     def spans(self, line):
         """The columns of the first and last byte of each match: the one that begins first from the end of the one before, and the longest
         that begins there. A match without a byte is none."""
-        text, spans, at = trees.Text(line), [], 0
+        text, spans, at = text_of(line), [], 0
         while (start := self.first(text, at)) is not None:
             end = self.ends(text, 1 << start).bit_length() - 1
             if end > start:
@@ -147,10 +160,16 @@ class Test:
             at = max(end, start + 1)
         return spans
 
-    @functools.lru_cache(2_000)
+    @functools.lru_cache(20_000)
     def lines_with_match(self, body):
         lines = lines_of(body)
         return lines.with_one_of(self.ends(lines.places, lines.places.every))
+
+
+@functools.lru_cache(1_000)
+def test_of(pattern, ignores_case=False, is_literal=False, edge=None):
+    """The test of a pattern, so that searches with the same one find what they need among what was found."""
+    return Test(pattern, ignores_case, is_literal, edge)
 
 
 def bits_from(first, last):
@@ -195,7 +214,7 @@ class Search:
         """The row of a line that is found."""
         place = b"%d:" % (line + 1)
         if self.view == b"--column":
-            place += b"%d:" % (self.test.first(trees.Text(text), 0) + 1)
+            place += b"%d:" % (self.test.first(text_of(text), 0) + 1)
         elif self.view == b"--spans":
             place += b",".join(b"%d-%d" % span for span in self.test.spans(text)) + b":"
         return self.begin(name, b":") + place + text + b"\n"
@@ -250,18 +269,29 @@ def first_lines(found, count):
     return hits
 
 
-@functools.lru_cache(10_000)
 def read(line):
     """The search of a line that is one. Raises Refused, with the reason of its refusal."""
+    search, reason = read_once(line)
+    if search is None:
+        raise Refused(reason)
+    return search
+
+
+@functools.lru_cache(10_000)
+def read_once(line):
+    """The search of a line and None, or None and the reason of its refusal."""
     word, _, rest = line.partition(b" ")
-    if word == b"find":
-        options, pattern = said(line)
-        names = [(value, option == b"-n") for option, value in options if option in WORDS]
-        prefixes = [[value for option, value in options if option == wanted] for wanted in PREFIXES]
-        return search_of(pattern, dict(options), [(f"name pattern {number}", *name) for number, name in enumerate(names, 1)], *prefixes)
-    is_named, ignores_case = OTHERS[word]
-    name, _, pattern = rest.partition(b" ") if is_named else (None, None, rest)
-    return search_of(pattern, {b"-i": None} if ignores_case else {}, [("name pattern", name, True)] if is_named else [])
+    try:
+        if word == b"find":
+            options, pattern = said(line)
+            names = [(value, option == b"-n") for option, value in options if option in WORDS]
+            prefixes = [[value for option, value in options if option == wanted] for wanted in PREFIXES]
+            return search_of(pattern, dict(options), [(f"name pattern {number}", *name) for number, name in enumerate(names, 1)], *prefixes), None
+        is_named, ignores_case = OTHERS[word]
+        name, _, pattern = rest.partition(b" ") if is_named else (None, None, rest)
+        return search_of(pattern, {b"-i": None} if ignores_case else {}, [("name pattern", name, True)] if is_named else []), None
+    except Refused as refused:
+        return None, str(refused)
 
 
 def search_of(pattern, options, names, under=(), not_under=()):
@@ -270,11 +300,11 @@ def search_of(pattern, options, names, under=(), not_under=()):
     tests = []
     for called, name, wanted in names:
         try:
-            tests.append((Test(name, b"-I" in options), wanted))
+            tests.append((test_of(name, b"-I" in options), wanted))
         except Refused as refused:
             raise Refused(f"{called}: {refused}") from None
     edge = b"-x" if b"-x" in options else b"-w" if b"-w" in options else None
-    return Search(Test(pattern, b"-i" in options, b"-F" in options, edge), tests, options, under, not_under)
+    return Search(test_of(pattern, b"-i" in options, b"-F" in options, edge), tests, options, under, not_under)
 
 
 def is_search(line):

@@ -24,7 +24,9 @@ USUAL = Lengths(255, 1_048_576, 16_384)
 # While so many searches are open, no item is taken.
 MOST_OPEN = 1_024
 
-HEAD = re.compile(rb"search (\d+) version (\d+) (?:lines|names) (\d+)(?: and more)?(?: rows (\d+))?( candidates (\d+) of (\d+))?\n")
+HEAD = re.compile(rb"search (\d+) version (\d+) (?:lines|names) (\d+)(?: and more)?(?: rows (\d+))?( candidates (\d+) of (\d+))?( waited \d+ worked \d+ by [a-z]+)?\n")
+# What an answer says of its times and its way, where it must.
+TIMES = re.compile(rb" waited (0|[1-9]\d*) worked (0|[1-9]\d*) by (engine|simulation|matcher)")
 REFUSED = re.compile(rb"(search|line) (0|[1-9]\d*) refused: ([^\n]*)\n")
 STATUS = re.compile(rb"line (\d+) status version \d+ documents \d+ bytes \d+ accepted \d+ of \d+ open (\d+)\n")
 
@@ -140,26 +142,30 @@ def rows_of(head, asked):
 
 def entries_of(text, items):
     """The entries of a text in order. The items are those of its script."""
-    entries, at, asked = [], 0, {item.number: item for item in items if item.is_search()}
+    return list(each_entry(text, items))
+
+
+def each_entry(text, items):
+    """The same, one after the other."""
+    at, asked = 0, {item.number: item for item in items if item.is_search()}
     while at < len(text):
         refused, head, status = REFUSED.match(text, at), HEAD.match(text, at), STATUS.match(text, at)
         if status:
             end = status.end()
-            entries.append(Entry("line", int(status[1]), None, None, text[at:end]))
+            yield Entry("line", int(status[1]), None, None, text[at:end])
         elif refused:
             end = refused.end()
-            entries.append(Entry(refused[1].decode(), int(refused[2]), refused[3].decode("latin-1"), None, text[at:end]))
+            yield Entry(refused[1].decode(), int(refused[2]), refused[3].decode("latin-1"), None, text[at:end])
         elif head:
             end = head.end()
             for _ in range(rows_of(head, asked)):
                 end = text.find(b"\n", end) + 1
                 if end == 0:
                     raise Illegal("an answer ends before its last line")
-            entries.append(Entry("search", int(head[1]), None, int(head[2]), text[at:end]))
+            yield Entry("search", int(head[1]), None, int(head[2]), text[at:end])
         else:
             raise Illegal("no entry begins as %r" % text[at : at + 60])
         at = end
-    return entries
 
 
 def is_hit(entry):
@@ -284,7 +290,7 @@ def fault_of_search(item):
     return None
 
 
-def check_answer(item, entry, run, stats):
+def check_answer(item, entry, run, stats, times):
     if item.known:
         if entry.text != item.known.text:
             raise Illegal("search %d is answered by %r, and should be by %r" % (item.number, entry.text[:300], item.known.text[:300]))
@@ -294,7 +300,10 @@ def check_answer(item, entry, run, stats):
     candidates = counts[5] if stats else b""
     if stats and not (counts[5] and are_candidates(item, run.states[entry.version], int(counts[6]), int(counts[7]))):
         raise Illegal("search %d counts other documents" % item.number)
-    wanted = b"search %d version %d %s%s\n%s" % (item.number, entry.version, found, candidates, rows)
+    took = counts[8] if times else b""
+    if times and not (counts[8] and TIMES.fullmatch(counts[8])):
+        raise Illegal("search %d has no times" % item.number)
+    wanted = b"search %d version %d %s%s%s\n%s" % (item.number, entry.version, found, candidates, took, rows)
     if entry.text != wanted:
         raise Illegal("search %d is answered by %r, and at version %d should be by %r" % (item.number, entry.text[:300], entry.version, wanted[:300]))
 
@@ -340,7 +349,7 @@ def pair(items, text):
     return entries
 
 
-def check(script, text, readers=2, max_commands=1_000_000, stats=False, files=None, table=None, scarce=False, known=None, timed=False, lengths=USUAL):
+def check(script, text, readers=2, max_commands=1_000_000, stats=False, times=False, files=None, table=None, scarce=False, known=None, timed=False, lengths=USUAL):
     """Returns the status with which the run must end if the text is legal, and raises Illegal if it is not. `files` are the
     bytes by their paths, `table` patterns that take too long here, each with another that finds the same lines.
     Where memory is scarce, it may be refused to any item, and any reader may answer a search. `known` is a text whose entries the
@@ -379,7 +388,7 @@ def check(script, text, readers=2, max_commands=1_000_000, stats=False, files=No
             if entry.version not in run.versions(place, end):
                 raise Illegal("search %d is answered at version %d" % (item.number, entry.version))
             shares.take(item.number, entry.version)
-            check_answer(item, entry, run, stats)
+            check_answer(item, entry, run, stats, times)
             spans.append((place, max(place, run.first_published(entry.version)), end))
     check_open(statuses, spans)
     if any(entry and entry.reason for entry in entries):
@@ -521,7 +530,7 @@ class Steps:
             raise Illegal("line %d, a %s, has %r, and %d searches are open" % (item.number, item.kind, entry.text, len(self.open)))
         self.at += 1
 
-    def answer(self, place, entry, stats):
+    def answer(self, place, entry, stats, times):
         """Answers a search at a version that is published by now, and not older than when it was asked. It may be older than an
         answer before it of its only reader: then it was taken first, and stopped for the other."""
         number, version = self.items[place].number, entry.version
@@ -533,14 +542,14 @@ class Steps:
             self.take()
         if version < least:
             raise Illegal("search %d is answered at version %d, and should be at %d or later" % (number, version, least))
-        check_answer(item, entry, self.run, stats)
+        check_answer(item, entry, self.run, stats, times)
         del self.open[number]
 
-    def write(self, place, entry, stats):
+    def write(self, place, entry, stats, times):
         """Takes the steps that lead to an entry."""
         what, number, reason, version, _ = entry
         if version is not None:
-            self.answer(place, entry, stats)
+            self.answer(place, entry, stats, times)
         elif reason is None:
             self.show(place, entry)
         elif what == "search" and (number in self.open or reason in ("cancelled", "too slow")):
@@ -549,7 +558,7 @@ class Steps:
             self.refuse(place, reason)
 
 
-def check_session(script, text, readers=2, max_commands=1_000_000, stats=False, files=None, table=None, scarce=False, known=None, timed=False, lengths=USUAL, whole=True):
+def check_session(script, text, readers=2, max_commands=1_000_000, stats=False, times=False, files=None, table=None, scarce=False, known=None, timed=False, lengths=USUAL, whole=True):
     """As `check`, for a session: each answer is written as soon as it is there, and only the other entries keep the order of
     their items. An answer has a version that is published by then. If the text is not whole, since the session ended early, searches
     may still be open and items left."""
@@ -559,7 +568,7 @@ def check_session(script, text, readers=2, max_commands=1_000_000, stats=False, 
         place = places.get(entry[:2])
         if place is None:
             raise Illegal("there is no item for the entry %r" % entry.text[:60])
-        steps.write(place, entry, stats)
+        steps.write(place, entry, stats, times)
         refused = refused or entry.reason is not None
         hit = hit or is_hit(entry)
     if not whole:
