@@ -3,7 +3,7 @@
 
 A client here waits for each answer before it sends what follows. If an answer waited for a byte after its item, it
 would never come, and the test would fail at its limit of time. The texts that must come are written by hand, or are
-what a run writes for the same script, which tests/run.py and tests/judge/check_transcripts.py check. Each test of WITH_EACH
+what a run writes for the same script, which tests/run.py and tests/judge/random_use.py check. Each test of WITH_EACH
 is made with each number of readers of READERS, and as many tests at once as there are processors. The clients of
 tests/sessions/ do not wait for each answer.
 

@@ -3,21 +3,15 @@
 
 First the judge itself is tested: it must read and match the patterns of tests/patterns.rows and tests/lines.rows, accept the texts of
 tests/cases, which are written by hand, and refuse each text of a table, each wrong in one thing. Then every beginning of a script with a
-replacement, a pending put and syncs is run with several numbers of readers, and is sent to sessions with as many. So are random scripts,
-with few syncs between searches and later publishes, with searches of all kinds, cancels and statuses, and some of them with a limit of
-time. Every text must be legal, and in some of them searches must be cancelled, be open at a status, be cut off at a limit, have lines
-around their lines, and be refused for their options. As many scripts are tried at once as there are processors.
+replacement, a pending put and syncs is run with several numbers of readers, and is sent to sessions with as many. Every text must be
+legal. As many scripts are tried at once as there are processors. Random scripts are tried by random_use.py.
 
-Usage: tests/judge/check_transcripts.py [--scripts N]   The last line counts: N passed, M failed. N is the number of random scripts.
+Usage: tests/judge/check_transcripts.py   The last line counts: N passed, M failed.
 """
 
-import argparse
-import collections
 import concurrent.futures
 import os
 import pathlib
-import random
-import re
 import subprocess
 import sys
 
@@ -27,13 +21,9 @@ import patterns  # noqa: E402
 from built import PROGRAM, TOP, need_program, rows_of  # noqa: E402
 from counted import Counted  # noqa: E402
 from judge import searches, transcripts, trees  # noqa: E402
-from judge.random_finds import random_find  # noqa: E402
 
 READERS = [0, 1, 2, 16]
-RANDOM_SCRIPTS = 5000
 SECONDS = 60
-# The limits of time of random scripts, in milliseconds: with the first some searches may be too slow, and with the second none is.
-SEARCH_MS = [1, 4_294_967_295]
 
 REPLACEMENT = b"put f 3\nold\npublish\nsearch old\nsync\nput f 3\nnew\nsearch old\nsync\npublish\nsearch old\nsearch new\n"
 OLD, OLD_AGAIN = b"search 1 version 1 lines 1\nf:1:old\n", b"search 2 version 1 lines 1\nf:1:old\n"
@@ -46,6 +36,8 @@ ONE = b"search %d version 3 lines 1\nb:1:x\n"
 
 # Three publishes after three searches, which find nothing at any of them.
 THRICE = b"put a 1\nx\npublish\nsearch q\nsearch q\nsearch q\nput a 1\nx\npublish\nput a 1\nx\npublish\n"
+IN_LANES = THRICE.replace(b"search q\nsearch q", b"find --lane a -- q\nfind --lane b -- q")
+IN_ONE_LANE = IN_LANES.replace(b"--lane b", b"--lane a")
 AT_1, AT_2, AT_3 = [b"search %%d version %d lines 0\n" % version for version in (1, 2, 3)]
 
 REFUSALS = b"put  1\nx\nremove a\nput a 1\nx\nput b 3\nx\0y\nput b 1\ny\nremove b\nload c p\nwhat\nsearch \0\npublish\nsearch (x|y)$\nput a 3\nx\n"
@@ -411,6 +403,8 @@ LEGAL = [
     (BESIDE, {"readers": 1}, BOTH % 1 + BOTH % 2 + ONE % 3, 0),
     (THRICE, {}, AT_3 % 1 + AT_1 % 2 + AT_2 % 3, 1),
     (THRICE, {"readers": 3}, AT_3 % 1 + AT_2 % 2 + AT_1 % 3, 1),
+    (IN_LANES, {"readers": 1}, AT_3 % 1 + AT_2 % 2 + AT_1 % 3, 1),
+    (IN_ONE_LANE, {"readers": 1}, AT_2 % 1 + AT_3 % 2 + AT_1 % 3, 1),
     (BESIDE, {"readers": 1, "scarce": True}, ONE % 1 + BOTH % 2 + BOTH % 3, 0),
     (REFUSALS, {"max_commands": 1}, b"".join(REFUSED), 2),
     (CASES, {}, b"".join(CASES_ANSWERED), 0),
@@ -464,6 +458,7 @@ WRONG = [
     # older than what the one reader, or each of two, was answered at
     (BESIDE, {"readers": 1}, ONE % 1 + BOTH % 2 + BOTH % 3, 0),
     (THRICE, {}, AT_3 % 1 + AT_2 % 2 + AT_1 % 3, 1),
+    (IN_ONE_LANE, {"readers": 1}, AT_3 % 1 + AT_2 % 2 + AT_1 % 3, 1),
     # the lines of another version, too few, too many, in another order, under another name or number, or of another text
     (REPLACEMENT, {}, OLD + OLD_AGAIN + NO_OLD + b"search 4 version 2 lines 0\n", 0),
     (REPLACEMENT, {}, OLD + OLD_AGAIN + b"search 3 version 2 lines 1\nf:1:old\n" + NEW, 0),
@@ -789,108 +784,24 @@ def judged_patterns():
     return ["%r" % pattern for pattern in faults if pattern is not None], len(faults)
 
 
-# What is counted in the texts, by what shows it, and what must be seen in the texts of random scripts.
-SEEN = {
-    "searches cancelled": rb"refused: cancelled\n",
-    "too slow": rb"refused: too slow\n",
-    "statuses with open searches": rb" open [1-9]\d*\n",
-    "answers cut off": rb" and more[ \n]",
-    "answers with lines around": rb" rows [2-9]",
-    "finds refused": rb"refused: (?:bad option|option|-|no --|name pattern \d)",
-}
-WANTED = [what for what in SEEN if what != "too slow"]
+def faults_of_beginning(readers, length):
+    """What is wrong with what the program does with a beginning of the script, as a run and as a session with so many readers. None if it
+    does as it should."""
+    script = REPLACEMENT[:length]
+    for start, how in ([], {}), (["--live"], {"session": True}):
+        done = subprocess.run([PROGRAM, *start, "--readers", str(readers)], input=script, capture_output=True, check=False, timeout=SECONDS)
+        fault = repr(done.stderr) if done.stderr else transcripts.fault_of(script, done.stdout, done.returncode, readers=readers, **how)
+        yield fault and "%r with %s and %d readers: %s" % (script, start, readers, fault)
 
 
-def fault_of_way(start, script, how, options):
-    """What is wrong with what the program does with a script if it is started with these words, or None; and what is seen in its text."""
-    words = [b"--max-commands", b"%d" % options["max_commands"]] if "max_commands" in options else []
-    words += [b"--search-ms", b"%d" % options["search_ms"]] if options.get("search_ms") else []
-    words += [b"--stats"] if options.get("stats") else []
-    done = subprocess.run([PROGRAM] + start + words, input=script, capture_output=True, check=False, timeout=SECONDS)
-    judged = {name: value for name, value in options.items() if name != "search_ms"}
-    judged["timed"] = options.get("search_ms") == SEARCH_MS[0]
-    fault = repr(done.stderr) if done.stderr else transcripts.fault_of(script, done.stdout, done.returncode, **how, **judged)
-    seen = {what: len(re.findall(text, done.stdout)) for what, text in SEEN.items()}
-    return fault and "%r with %s and %s: %s" % (script, b" ".join(start).decode(), options, fault), seen
-
-
-def faults_of_script(script, readers, sessions, **options):
-    """The same for a run of a script with so many readers, and for its sessions with each of some numbers."""
-    yield fault_of_way([b"--readers", b"%d" % readers], script, {"readers": readers}, options)
-    for number in sessions:
-        how = {"readers": number, "session": True}
-        yield fault_of_way([b"--live", b"--readers", b"%d" % number], script, how, options)
-
-
-def judged_scripts(pool, tries, wanted=()):
-    """The texts of these scripts that are not legal, and how many texts there are. A try is the words of `faults_of_script`. What is
-    `wanted` must be seen in some of the texts."""
-    jobs = [pool.submit(lambda words, options: list(faults_of_script(*words, **options)), *one) for one in tries]
+def judged_beginnings(pool):
+    """The texts of each beginning of the script, with each number of readers, that are not legal, and how many texts there are."""
+    jobs = [pool.submit(lambda *one: list(faults_of_beginning(*one)), readers, length) for readers in READERS for length in range(len(REPLACEMENT) + 1)]
     faults = [fault for job in jobs for fault in job.result()]
-    counts = collections.Counter()
-    for _, seen in faults:
-        counts.update(seen)
-    if wanted:
-        print(", ".join("%s %d" % pair for pair in counts.items()), flush=True)
-    return [fault for fault, _ in faults if fault] + ["no %s" % what for what in wanted if not counts[what]], len(faults) + len(wanted)
-
-
-def beginnings():
-    """Each beginning of the script, with each number of readers."""
-    for readers in READERS:
-        for length in range(len(REPLACEMENT) + 1):
-            yield (REPLACEMENT[:length], readers, [readers]), {}
-
-
-def random_cancel(chance, asked):
-    """A cancel, after so many searches: mostly of the last one or one of the last, else of any, or of one that was not asked."""
-    number = chance.choice([asked] * 6 + [max(asked - chance.randrange(4), 0)] * 2 + [chance.randrange(asked + 1), asked + 1, 0, 2**32 + asked])
-    return b"cancel %d" % number
-
-
-def random_item(chance, asked):
-    name, text = chance.choice([b"a", b"A", b"c", b"a/b"]), b"\n".join(chance.choices([b"ab", b"b", b"", b"aBAb"], k=chance.randrange(3)))
-    return chance.choice(
-        [b"put %s %d\n%s" % (name, len(text), text)] * 4
-        + [b"remove " + name] * 2
-        + [b"removeunder " + chance.choice([b"a", b"A", b"a/", b"a/b", b"ab", b""])]
-        + [b"copyunder %s %s" % (chance.choice([b"a", b"A", b"a/", b"a/b", b"c", b""]), chance.choice([b"a", b"A", b"a/", b"a/b", b"c", b"d", b""]))] * 2
-        + [b"publish"] * 3
-        + [b"search " + chance.choice([b"ab", b"^b|a$", b"b+$", b"(ab)*", b"zz"])] * 8
-        + [b"searchin %s b" % chance.choice([b"^a", b"b$|c"])]
-        + [b"isearch " + chance.choice([b"aB", b"^B|A$", b"[^b]", b"B+$"])] * 2
-        + [b"isearchin %s B" % chance.choice([b"^a", b"^A|c"])]
-        + [random_find(chance, [b"aB", b"ab", b"^b|a$", b"(ab)*", b"[^b]", b"a", b"a|ab|ba", b"zz", b""], [b"^a", b"^A|c", b"b$", b"/", b"^a/", b""])] * 8
-        + [random_find(chance, [b"ab", b"^b|a$", b"(ab)*", b"a", b""], [b"^a", b"b$", b"^a/"], (), [b"a", b"a/", b"a/b", b"A", b"c", b"ab", b"^a"])] * 4
-        + [random_cancel(chance, asked)] * 5
-        + [b"status"] * 2
-        + [b"sync", b"load a /nothing/here", b"pull", b"cancel", b"cancel %dx" % asked, b"status %d" % asked]
-    )
-
-
-def random_script(chance):
-    items, asked = [], 0
-    for _ in range(chance.randrange(60)):
-        items.append(random_item(chance, asked) + b"\n")
-        asked += items[-1].startswith((b"search", b"isearch", b"find"))
-    return b"".join(items)
-
-
-def random_scripts(count):
-    """So many random scripts, each with one number of readers as a run and with all as sessions. A third of them has a limit of time, and
-    a fifth shows the candidates."""
-    chance = random.Random(1)
-    for number in range(count):
-        options = {"max_commands": chance.choice([5, 1000]), "stats": number % 5 == 0}
-        if number % 3 == 0:
-            options["search_ms"] = chance.choice(SEARCH_MS)
-        yield (random_script(chance), READERS[number % len(READERS)], READERS), options
+    return [fault for fault in faults if fault], len(faults)
 
 
 def main():
-    words = argparse.ArgumentParser(description="Judges texts of the program.")
-    words.add_argument("--scripts", type=int, default=RANDOM_SCRIPTS)
-    scripts = words.parse_args().scripts
     need_program()
     counted = Counted()
     with concurrent.futures.ThreadPoolExecutor(os.cpu_count()) as pool:
@@ -898,8 +809,7 @@ def main():
             ("the judge of patterns", judged_patterns),
             ("the judge", judged_by_hand),
             ("the judge of sessions", judged_sessions),
-            ("beginnings", lambda: judged_scripts(pool, beginnings())),
-            ("random scripts", lambda: judged_scripts(pool, random_scripts(scripts), WANTED)),
+            ("beginnings", lambda: judged_beginnings(pool)),
         ]
         for name, part in parts:
             wrong, count = part()

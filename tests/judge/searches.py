@@ -185,7 +185,7 @@ class Search:
         self.test, self.names, self.under, self.not_under = test, names, tuple(under), tuple(not_under)
         self.inverts, self.limit, self.zero = b"-v" in options, options.get(b"-m"), b"-Z" in options
         self.view = next((option for option in options if option in VIEWS), None)
-        self.context = options.get(b"-C", 0)
+        self.context, self.lane = options.get(b"-C", 0), options.get(LANE)
         self.of_names = self.view in (b"-l", b"-c")
 
     def hits(self, documents, any_name=False):

@@ -368,7 +368,7 @@ def check(script, text, readers=2, max_commands=1_000_000, stats=False, times=Fa
             raise Illegal("line %d, a %s, is %s, and should be %s" % (item.number, item.kind, reason or "accepted", " or ".join(map(str, run.reasons(item)))))
         if reason is None:
             run.carry_out(place, item)
-    shares, spans, ends = Shares(0 if scarce else readers), [], ends_of(items, readers)
+    shares, spans, ends = collections.defaultdict(lambda: Shares(0 if scarce else readers)), [], ends_of(items, readers)
     for place, (item, entry) in enumerate(zip(items, entries)):
         if not item.is_search():
             continue
@@ -387,7 +387,7 @@ def check(script, text, readers=2, max_commands=1_000_000, stats=False, times=Fa
         else:
             if entry.version not in run.versions(place, end):
                 raise Illegal("search %d is answered at version %d" % (item.number, entry.version))
-            shares.take(item.number, entry.version)
+            shares[searches.read(item.words["line"]).lane].take(item.number, entry.version)
             check_answer(item, entry, run, stats, times)
             spans.append((place, max(place, run.first_published(entry.version)), end))
     check_open(statuses, spans)
@@ -433,8 +433,8 @@ def check_open(statuses, spans):
 
 
 class Shares:
-    """The answers of each of so many readers. The text does not show which reader answers a search. But the versions of each reader do
-    not fall, and a run's readers take the searches in their order. So there must be a way to share out the answers: each to the reader
+    """The answers of each of so many readers in a lane. The text does not show which reader answers a search. But the versions of each reader
+    do not fall, and a run's readers take the searches of a lane in their order. So there must be a way to share out the answers: each to the reader
     that was answered last at the latest version that is not later. Without readers, nothing is asked here."""
 
     def __init__(self, readers):
