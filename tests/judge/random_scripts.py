@@ -22,22 +22,25 @@ Kind = collections.namedtuple("Kind", "share documents items weights")
 EVEN = {"put": 8, "load": 2, "remove": 3, "removeunder": 1, "copyunder": 2, "publish": 5, "search": 12, "find": 20, "cancel": 8, "status": 3, "sync": 2, "bad": 2, "nothing": 1}
 SEARCHES = {**EVEN, "put": 4, "remove": 1, "publish": 3, "search": 20, "find": 60}
 TYPED = {"put": 2, "remove": 1, "copyunder": 1, "publish": 2, "search": 3, "typed": 40, "status": 1}
+COPIED = {"copyunder": 12, "removeunder": 4, "put": 3, "publish": 8, "search": 4, "find": 14, "cancel": 5, "status": 4, "sync": 2}
 CROWD = {"put": 4, "publish": 2, "search": 300, "find": 100, "cancel": 10, "status": 4}
 KINDS = {
     "a few items": Kind(30, (0, 0), (0, 60), EVEN),
     "many searches": Kind(30, (2, 12), (100, 400), SEARCHES),
     "searches as one types": Kind(15, (5, 30), (50, 200), TYPED),
     "many documents": Kind(12, (200, 400), (30, 100), SEARCHES),
-    "more searches than can be open": Kind(2, (2, 5), (1_100, 1_400), CROWD),
-    "little memory": Kind(10, (100, 500), (20, 80), {**EVEN, "put": 40}),
+    "many copies": Kind(4, (100, 300), (30, 80), COPIED),
+    "more searches than can be open": Kind(4, (2, 5), (1_100, 1_400), CROWD),
+    "little memory": Kind(20, (100, 500), (20, 80), {**EVEN, "put": 40}),
 }
-# A copy may double the documents.
-MOST_COPIES = 6
+# A copy may double the documents. It is left out where there would be more than so many.
+MOST_DOCUMENTS = {"many documents": 4_000, "many copies": 20_000}
+FEW_DOCUMENTS = 1_000
 
 LANES = [b"a", b"b", b"--", b"-m", b"\xff", b"x" * 64]
 BAD_NAMES = [b"", b"a b", b"a\x7f", b"\ta", b"n" * 256, b"n" * 4_097]
 BAD_BODIES = [b"a\0b", b"\0", b"x" * 16_385, b"a\n" + b"b" * 16_385 + b"\n"]
-TOO_LONG = b"a\n" * (1 << 19) + b"b"
+TOO_LONG = (b"ab " * 50 + b"\n") * 6_945
 BAD_PATTERNS = [b"(a", b"a{2,1}", b"*a", b"b|*", b"^+", b"[a", b"[b-a]", b"[[:x:]]", b"a\\", b"\\w", b"a\0", b"a" * 1_025, b"(a{255}){17}", b"(" * 65 + b")" * 65, b"a" + b"?" * 64]
 BAD_LINES = [b"pull", b"PUT a 1", b" publish", b"publish ", b"publish\r", b"sync 1", b"status 1", b"cancel", b"cancel 1x", b"cancel -1", b"remove", b"removeunder"]
 BAD_LINES += [b"copyunder a", b"load a", b"load a ", b"searchin a", b"isearchin b", b"findx -- a", b"\xef\xbb\xbfpublish", b"\0"]
@@ -73,14 +76,14 @@ class Maker:
     """Makes one script."""
 
     def __init__(self, chance, kind):
-        self.chance, self.kind = chance, KINDS[kind]
-        self.asked = self.copies = 0
+        self.chance, self.kind, self.most = chance, KINDS[kind], MOST_DOCUMENTS.get(kind, FEW_DOCUMENTS)
+        self.asked, self.documents = 0, set()
         few, count = chance.sample(NAMES, chance.randint(3, len(NAMES))), chance.randint(*self.kind.documents)
         self.first = [b"%s%d" % (chance.choice(few[:-1]), number) for number in range(count)]
         self.names = few + self.first
         is_large, is_short = kind == "searches as one types" and chance.randrange(2) == 0, kind == "little memory"
         self.bodies = [self.many_trigrams() if is_short else random_body(chance, is_large) for _ in range(8 + count // 3)]
-        self.patterns = [Patterns(chance).alternatives(chance.randint(0, 3))[0] for _ in range(5)] + chance.sample(WORDS, 5)
+        self.patterns = [Patterns(chance).alternatives(chance.randint(0, 3))[0] for _ in range(5)] + chance.sample(WORDS, 8)
 
     def some(self, good, bad, one_in):
         """One of these, or of the bad ones."""
@@ -91,7 +94,9 @@ class Maker:
         return b"".join(b"%s\n" % bytes(self.chance.choices(b"abcdefghijklmnopqrstuvwxyz ", k=70)) for _ in range(10))
 
     def name(self):
-        return self.some(self.names, BAD_NAMES, 40)
+        name = self.some(self.names, BAD_NAMES, 40)
+        self.documents.add(name)
+        return name
 
     def prefix(self):
         return self.some(PREFIXES, BAD_NAMES, 20)
@@ -117,11 +122,17 @@ class Maker:
         return b"remove " + self.name()
 
     def removeunder(self):
-        return b"removeunder " + self.some(self.names, [*PREFIXES, *BAD_NAMES], 2)
+        prefix = self.some(self.names, [*PREFIXES, *BAD_NAMES], 2)
+        self.documents = {name for name in self.documents if not (prefix and name.startswith(prefix))}
+        return b"removeunder " + prefix
 
     def copyunder(self):
-        self.copies += 1
-        return b"copyunder %s %s" % (self.prefix(), self.prefix()) if self.copies <= MOST_COPIES else b"status"
+        prefix, other = self.prefix(), self.prefix()
+        documents = {*self.documents, *(other + name[len(prefix) :] for name in self.documents if name.startswith(prefix))}
+        if len(documents) > self.most:
+            return self.removeunder()
+        self.documents = documents
+        return b"copyunder %s %s" % (prefix, other)
 
     def publish(self):
         return b"publish"
@@ -163,6 +174,7 @@ class Maker:
 
     def items(self):
         """The items, and what is last, which may end the script."""
+        self.documents.update(self.first)
         items = [self.put_of(name) for name in self.first] + [b"publish"] * bool(self.first)
         words = self.chance.choices(list(self.kind.weights), list(self.kind.weights.values()), k=self.chance.randint(*self.kind.items))
         items += [getattr(self, word)() for word in words]
@@ -174,9 +186,9 @@ def random_options(chance, kind):
     """The options of the program, by the names that the judge has for them, and `search_ms`."""
     few = [] if KINDS[kind].documents[1] > 30 else [5, 30]
     options = {"max_commands": chance.choice([*few, 1_000, 1_000_000, 4_294_967_294]), "stats": chance.randrange(4) == 0, "times": chance.randrange(4) == 0}
-    if chance.randrange(4) == 0:
+    if chance.randrange(6) == 0:
         options["lengths"] = Lengths(chance.choice([1, 3, 7, 256, 4_096]), chance.choice([1, 10, 100, 1 << 21]), chance.choice([1, 3, 9, 20_000]))
-    if chance.randrange(5) == 0:
+    if chance.randrange(3) == 0:
         options["search_ms"] = chance.choice(SEARCH_MS)
     return options
 

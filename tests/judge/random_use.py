@@ -2,7 +2,7 @@
 """Random use at length: judges what the built program makes of random scripts, until a million searches are judged.
 
 The scripts have every item and option (random_scripts.py). Each is run, sent to a session at once or in parts with pauses, and sent to
-one that waits for its answers again and again, each with another number of readers. Those with little memory are run, and sent, in so
+one that waits for its answers again and again, each with another number of readers; some runs and sessions read a file. Those with little memory are run, and sent, in so
 little address space that it is used up somewhere: then a refusal for memory is legal, and a wrong or a lost answer is not. Every text is
 judged by transcripts.py. What is seen is counted: searches by what becomes of them and by their options, items that are accepted, and
 refusals by their reasons. Of each kind there must be so many at least. In some legal texts wrong answers are planted, each wrong in one
@@ -29,15 +29,17 @@ import time
 sys.path.insert(0, str(pathlib.Path(__file__).resolve().parent.parent))
 
 from built import PROGRAM, need_program  # noqa: E402
-from counted import Counted  # noqa: E402
+from counted import Counted, Wrong  # noqa: E402
 from judge import random_scripts, searches, transcripts  # noqa: E402
 from judge.changed_scripts import is_legal  # noqa: E402
 
 SEARCHES, SECONDS, SECONDS_OF_PROGRESS = 1_000_000, 300, 30
 NO_MEMORY = b"tsearch: out of memory\n"
-# In so many KB the program starts. A reader has a stack of so many, and a document with many trigrams takes so many.
-START, STACK, OF_A_DOCUMENT = 5_400, 2_100, 3
-LIMITS_OF_A_WAY = 3
+# How many KB are tried until the program answers a search, and how many more it has then at least. Others are for the stack of each reader,
+# and for each document with many trigrams. Each way of such a script is tried with several limits.
+TRIED, MORE, STACK, OF_A_DOCUMENT, LIMITS_OF_A_WAY = range(4_000, 40_000, 200), 500, 2_100, 3, 3
+A_SEARCH, ANSWERED = b"put a 1\nx\npublish\nsearch x\n", b"search 1 version 1 lines 1\na:1:x\n"
+# An answer is long if it has so many rows.
 LONG_ANSWER = 1_000
 # Wrong answers are planted in the texts of scripts with a few items, and in one of so many others, unless they are longer than that.
 ONE_IN, MOST_BYTES, ANSWERS_OF_A_TEXT = 15, 200_000, 3
@@ -57,12 +59,14 @@ OF_FINDS += ["option -C needs a number from 0 to 1000", "option --lane needs a w
 OF_FINDS += ["options exclude each other", "no -- before the pattern"]
 OF_SEARCHES = ["cancelled", "too slow", "out of memory", *OF_PATTERNS, *OF_FINDS]
 ANSWERS = ["lines", f"{LONG_ANSWER} rows or more", "more lines than are shown", "candidates", "times"]
+INPUTS = ["of runs", "of sessions", "in a file"]
 PLANTED = ["a row left out", "a row with another text", "an older version", "rows of an older version", "one of two names left out", "an entry left out", "an entry twice"]
 PLANTED += ["an answer behind a sync", "an answer after its cancel", "a cancel of none", "a status off by one", "another reason", "more candidates than documents"]
 WANTED = [("scripts with", kind) for kind in random_scripts.KINDS]
 WANTED += [("accepted", kind) for kind in ACCEPTED] + [("lines refused", reason) for reason in OF_LINES] + [("searches refused", reason) for reason in OF_SEARCHES]
 WANTED += [("answers with", what) for what in ANSWERS] + [("found lines by", option.decode()) for option in [*searches.OPTIONS, *searches.OTHERS]]
-WANTED += [("searches of", where) for where in ("runs", "sessions", "little memory")] + [("planted and found", what) for what in PLANTED]
+WANTED += [("searches of", where) for where in ("runs", "sessions", "little memory")] + [("input", what) for what in INPUTS]
+WANTED += [("planted and found", what) for what in PLANTED]
 WANTED += [("ended", "as out of memory"), ("statuses", "with open searches")]
 
 FOLDER = None
@@ -73,6 +77,14 @@ def make_folder():
     global FOLDER
     FOLDER = tempfile.TemporaryDirectory()
     random_scripts.write_files(os.fsencode(FOLDER.name))
+
+
+def least_memory():
+    """In how many KB the program answers a search."""
+    for kilobytes in TRIED:
+        if talk([], [(A_SEARCH, 0)], kilobytes)[:2] == (0, ANSWERED):
+            return kilobytes
+    raise Wrong(f"the program answers no search in {TRIED.stop} KB")
 
 
 def limit_memory(kilobytes):
@@ -154,29 +166,27 @@ def with_waits(chance, items, last):
 class Way:
     """A way in which a script is tried: the words of the call, the script and its parts, and how the text is judged."""
 
-    def __init__(self, options, readers, parts=None, script=None, kilobytes=None):
-        self.script, self.kilobytes = b"".join(part for part, _ in parts) if parts else script, kilobytes
-        self.parts = parts or [(script, 0)]
-        self.words = ["--readers", str(readers), *["--live"] * bool(parts), *random_scripts.words_of(options)]
+    def __init__(self, options, readers, parts, is_session, is_file=False, kilobytes=None):
+        self.script, self.parts, self.is_file, self.kilobytes = b"".join(part for part, _ in parts), parts, is_file, kilobytes
+        self.words = ["--readers", str(readers), *["--live"] * is_session, *random_scripts.words_of(options), *["script"] * is_file]
         self.how = {name: value for name, value in options.items() if name != "search_ms"}
-        self.how.update(readers=readers, session=bool(parts), timed=options.get("search_ms") == random_scripts.SEARCH_MS[0])
+        self.how.update(readers=readers, session=is_session, timed=options.get("search_ms") == random_scripts.SEARCH_MS[0])
         self.how.update(files=random_scripts.LOADED, scarce=bool(kilobytes))
 
     def shown(self):
         return " ".join(self.words) + (f" in {self.kilobytes} KB" if self.kilobytes else "")
 
 
-def ways_of(chance, kind):
-    """The ways to try a new script."""
+def ways_of(chance, kind, start):
+    """The ways to try a new script. The program starts in so many KB."""
     items, last = random_scripts.Maker(chance, kind).items()
     script, options = b"".join(items) + last, random_scripts.random_options(chance, kind)
     for number in range(LIMITS_OF_A_WAY if kind == "little memory" else 1):
         readers = chance.sample(random_scripts.READERS, 3)
-        most = START + 200 + len(items) * OF_A_DOCUMENT
-        limits = [chance.randrange(START, most + STACK * few) if kind == "little memory" else None for few in readers]
-        yield Way(options, readers[0], None, script, limits[0])
-        yield Way(options, readers[1], cut_anywhere(chance, script), None, limits[1])
-        yield Way(options, readers[2], with_waits(chance, items, last), None, limits[2])
+        limits = [start + MORE + chance.randrange(len(items) * OF_A_DOCUMENT + STACK * few) if kind == "little memory" else None for few in readers]
+        yield Way(options, readers[0], [(script, 0)], False, chance.randrange(4) == 0, limits[0])
+        yield Way(options, readers[1], cut_anywhere(chance, script), True, chance.randrange(4) == 0, limits[1])
+        yield Way(options, readers[2], with_waits(chance, items, last), True, False, limits[2])
 
 
 def reason_of(reason):
@@ -320,7 +330,11 @@ def without_cut(text, items):
 
 def fault_of(way, chance, seen, is_planted):
     """What is wrong with what the program writes, or None. Wrong answers are planted in it if it `is_planted`, which the judge must find."""
-    status, text, messages = talk(way.words, way.parts, way.kilobytes)
+    if way.is_file:
+        pathlib.Path(FOLDER.name, "script").write_bytes(way.script)
+    status, text, messages = talk(way.words, [] if way.is_file else way.parts, way.kilobytes)
+    seen.notes("input", INPUTS[way.how["session"]])
+    seen.notes("input", INPUTS[2], way.is_file)
     if status == -9:
         return f"did not end in {SECONDS} seconds"
     if way.kilobytes and (status, messages) == (2, NO_MEMORY):
@@ -346,14 +360,17 @@ def fault_of(way, chance, seen, is_planted):
     return None
 
 
-def tried(seed, number):
+def tried(seed, number, start):
     """What is wrong with the ways of a script, how many texts are judged, and what is seen."""
     chance, seen, faults, texts = random.Random(f"{seed} {number}"), Seen(), [], 0
     kind = random_scripts.random_kind(chance)
     seen.notes("scripts with", kind)
-    for way in ways_of(chance, kind):
-        fault = fault_of(way, chance, seen, kind == "a few items" or chance.randrange(ONE_IN) == 0)
+    for way in ways_of(chance, kind, start):
         texts += 1
+        try:
+            fault = fault_of(way, chance, seen, kind == "a few items" or chance.randrange(ONE_IN) == 0)
+        except (searches.Refused, AttributeError, LookupError, OSError, TypeError, ValueError) as wrong:
+            fault = repr(wrong)
         if fault:
             faults.append(f"script {number}, {kind}, with {way.shown()}: {fault[:MOST_SHOWN]}")
     return faults, texts, seen.counts
@@ -366,6 +383,7 @@ def judged(counts):
 
 def show(counts, took):
     """Writes what is seen, and how long it took."""
+    print("scripts: %d" % sum(count for (what, _), count in counts.items() if what == "scripts with"))
     for what in dict.fromkeys(what for what, _ in WANTED):
         kinds = sorted(kind for other, kind in counts if other == what)
         print("%s: %s" % (what, ", ".join("%s %d" % (kind, counts[what, kind]) for kind in kinds)))
@@ -381,8 +399,9 @@ def main():
     need_program()
     counted, counts, began, shown = Counted(), collections.Counter(), time.monotonic(), 0
     with concurrent.futures.ProcessPoolExecutor(os.cpu_count(), initializer=make_folder) as pool:
+        start = pool.submit(least_memory).result()
         numbers = iter([given.only]) if given.only is not None else iter(range(10**9))
-        jobs = {pool.submit(tried, given.seed, number) for number, _ in zip(numbers, range(4 * os.cpu_count()))}
+        jobs = {pool.submit(tried, given.seed, number, start) for _, number in zip(range(4 * os.cpu_count()), numbers)}
         while jobs:
             done, jobs = concurrent.futures.wait(jobs, return_when=concurrent.futures.FIRST_COMPLETED)
             for job in done:
@@ -391,7 +410,7 @@ def main():
                 counted.judge(faults)
                 counted.passes(texts - len(faults))
                 if judged(counts) < given.searches and (number := next(numbers, None)) is not None:
-                    jobs.add(pool.submit(tried, given.seed, number))
+                    jobs.add(pool.submit(tried, given.seed, number, start))
             took = time.monotonic() - began
             if took > shown + SECONDS_OF_PROGRESS:
                 shown = took

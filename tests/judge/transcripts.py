@@ -305,7 +305,10 @@ def check_answer(item, entry, run, stats, times):
         raise Illegal("search %d has no times" % item.number)
     wanted = b"search %d version %d %s%s%s\n%s" % (item.number, entry.version, found, candidates, took, rows)
     if entry.text != wanted:
-        raise Illegal("search %d is answered by %r, and at version %d should be by %r" % (item.number, entry.text[:300], entry.version, wanted[:300]))
+        begin = os.path.commonprefix([entry.text, wanted]).rfind(b"\n") + 1
+        line = entry.text.count(b"\n", 0, begin) + 1
+        shown = line, entry.text[begin : begin + 300], wanted[begin : begin + 300]
+        raise Illegal("search %d is answered at version %d, and from line %d by %r, and should be by %r" % (item.number, entry.version, *shown))
 
 
 def are_candidates(item, documents, candidates, count):
