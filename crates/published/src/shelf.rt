@@ -16,8 +16,8 @@ use std::thread::Threads;
 /// How much work an operation without a body is, in bytes of bodies.
 const LEAST_WORK: usize = 256;
 
-/// The work of a part of a copy, in bytes of bodies: that of a piece.
-const COPIES: usize = 65_536;
+/// The work of a part of a copy, in bytes of bodies: half of a piece.
+const COPIES: usize = 32_768;
 
 /// When the sets of its trigrams change for a document that is put or removed.
 #[derive(Clone, Copy)]
