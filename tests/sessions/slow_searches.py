@@ -23,7 +23,7 @@ sys.path.insert(0, str(pathlib.Path(__file__).resolve().parent.parent))
 from built import PROGRAM, TOP, own_body, put  # noqa: E402
 from counted import Wrong, run_tests  # noqa: E402
 from judge import transcripts  # noqa: E402
-from live import GREATEST_LINE, MEBIBYTE, SECONDS, Session, faults_with_each, same, send_all  # noqa: E402
+from live import GREATEST_LINE, MEBIBYTE, SECONDS, Session, expect_threads, faults_with_each, same, send_all  # noqa: E402
 
 # Large counts in a row inside a star: the simulation, which is the way for such a pattern, looks at some 3,000 places for each
 # byte, which takes seconds for each MB.
@@ -84,14 +84,14 @@ def texts_come_beside_a_long_search(start):
 
 
 def loads_and_removes_are_seen_beside_a_long_search(start):
-    """They are carried out and published while the search is at work, and the status says so."""
+    """They are carried out and published while the search is at work, and so are those under a prefix, and copies. The status says so."""
     text = (TOP / "examples/tree/README").read_bytes()
     with start() as session:
         session.send(LONG + SLOW_SEARCH)
-        session.send(b"load new examples/tree/README\nremove slow00\npublish\n")
-        size = sum(map(len, LONG_BODIES.values())) - len(LONG_BODIES[b"slow00"]) + len(text)
-        version = LONG_DOCUMENTS + 2
-        shown = (AFTER_LONG + 4, version, LONG_DOCUMENTS, size, version)
+        session.send(b"load new examples/tree/README\nremove slow00\ncopyunder new other\nremoveunder slow01\npublish\n")
+        size = sum(map(len, LONG_BODIES.values())) - len(LONG_BODIES[b"slow00"]) - len(LONG_BODIES[b"slow01"]) + 2 * len(text)
+        version = LONG_DOCUMENTS + 4
+        shown = (AFTER_LONG + 6, version, LONG_DOCUMENTS, size, version)
         session.ask(b"status\n", b"line %d status version %d documents %d bytes %d accepted %d of 1000000 open 1\n" % shown)
         session.expect_quiet()
 
@@ -145,6 +145,19 @@ def stopped_searches_go_on_beside_later_ones():
                 raise Wrong(f"{MOST_BEFORE} later searches are answered before a slow one, with {readers} readers")
 
 
+def threads_of_stopped_searches_end():
+    """Each slow search that is begun has a thread. Few of these stay once there is no search."""
+    slow = 12
+    with Session("--readers", "1") as session:
+        session.send(put(b"slow", slow_body(2, 16_000)) + put(b"a", b"hi") + b"publish\n" + SLOW_SEARCH * slow + b"searchin ^a$ hi\n")
+        same("the answer", session.read_entry(), b"search %d version 2 lines 1\na:1:hi\n" % (slow + 1))
+        expect_threads(session, range(slow, 30), f"with {slow} slow searches")
+        session.send(b"".join(b"cancel %d\n" % number for number in range(1, slow + 1)))
+        for _ in range(slow):
+            session.read_entry()
+        expect_threads(session, range(slow), f"after {slow} slow searches")
+
+
 def lanes_are_served_one_after_the_other():
     """Forty long searches of a lane hold up no search of another lane, and no item. Of their own lane few are begun at a time,
     so a further one is not answered."""
@@ -157,6 +170,23 @@ def lanes_are_served_one_after_the_other():
                 session.ask(b"find %s-n ^a -- i\n" % lane, b"search %d version %d lines 1\na:1:hi\n" % (number, LONG_DOCUMENTS + 1))
             session.ask(b"cancel 41\n", b"search 41 refused: cancelled\n")
             session.expect_quiet()
+
+
+def each_of_three_lanes_has_its_turns():
+    """Behind a slow search many quick ones of three lanes wait, first those of one lane, then those of the next. Each lane has its share of the
+    first answers."""
+    quick = b"find --lane %d -n ^a$ -- e.*z\n"
+    lanes, wait = 3, 200
+    with Session("--readers", "1") as session:
+        asked = b"".join(quick % lane * wait for lane in range(lanes))
+        session.send(put(b"slow", slow_body(2, 16_000)) + put(b"a", b"some text\n" * 3_000) + b"publish\n" + SLOW_SEARCH + asked)
+        answers = [0] * lanes
+        while sum(answers) < lanes * wait // 2:
+            number = int(session.read_entry().split()[1])
+            if number > 1:
+                answers[(number - 2) // wait] += 1
+        if min(answers) < wait // 4:
+            raise Wrong(f"of the first {sum(answers)} answers the lanes have {answers}")
 
 
 def times_are_shown():
@@ -390,7 +420,9 @@ ONCE = [
     items_are_taken_while_every_reader_is_at_work,
     slow_searches_are_stopped_for_later_ones,
     stopped_searches_go_on_beside_later_ones,
+    threads_of_stopped_searches_end,
     lanes_are_served_one_after_the_other,
+    each_of_three_lanes_has_its_turns,
     times_are_shown,
     stars_at_the_front_go_by_the_engine,
     search_is_answered_beside_long_ones_by_the_last_reader,
