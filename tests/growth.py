@@ -200,18 +200,20 @@ class Runs:
 
         return self.instructions_by_thread(way, talk)[0]
 
-    def with_a_clock(self, words, script, **clock):
-        """The requests for memory and the text of a run whose clock goes on by JUMP seconds right after it is first read, or by STEP seconds
-        each time that it is read, or can never be read if BROKEN is given."""
-        env = dict(os.environ, LD_PRELOAD=str(self.library), **clock)
+    def counted(self, words, script, **more):
+        """What the library counts of a run, with more words in its environment."""
+        env = dict(os.environ, LD_PRELOAD=str(self.library), **more)
         messages, text = self.run([str(PROGRAM), *words], script, env)
-        return int(re.search(r"counts (\d+)", messages)[1]), text
+        return Memory(*map(int, re.search(r"counts ([\d ]+)", messages)[1].split()), text)
+
+    def with_a_clock(self, words, script, **clock):
+        """The counts of a run whose clock goes on by JUMP seconds right after it is first read, or by STEP seconds each time that it is
+        read, or can never be read if BROKEN is given."""
+        return self.counted(words, script, **clock)
 
     def count_memory(self, way, script, least=0):
         """What memory a run takes, and how often it writes."""
-        env = dict(os.environ, LD_PRELOAD=str(self.library), LEAST=str(least))
-        messages, text = self.run([str(PROGRAM), *WORDS[way]], script, env)
-        return Memory(*map(int, re.search(r"counts ([\d ]+)", messages)[1].split()), text)
+        return self.counted(WORDS[way], script, LEAST=str(least))
 
 
 def each(text, count, first=0):
@@ -265,6 +267,14 @@ def new_documents_that_are_filled_together(n):
     return after(b"", b"".join(put(b"f%d" % number, own_body(text, number)) for number in range(n)) + b"publish\n")
 
 
+def documents_beside_one_that_is_filled(n):
+    """What comes has over a MiB, so it is put into the sets of its trigrams at one go. Those of the documents that were there stay."""
+    text = text_of_many_trigrams(40)
+    there = b"".join(put(b"f%d" % number, own_body(text, number)) for number in range(n))
+    large = b"".join(put(b"g%d" % number, own_body(b"some text\n" * 55_000, number)) for number in range(2))
+    return after(there + b"publish\n" * 3, large + b"publish\n")
+
+
 def documents_in_both_copies(n):
     return after(b"", documents(n) + b"publish\n" * 3 + b"search x\n")
 
@@ -293,6 +303,14 @@ def second_names_for_a_while(n):
     copies = b"".join(put(b"copy%d" % number, b"text %d" % number) for number in range(n)) + b"publish\n"
     texts = b"".join(put(b"f%d" % number, b"text %d" % number) for number in range(n)) + b"publish\n" * 3
     return after(texts, copies + b"".join(b"remove copy%d\n" % number for number in range(n)) + b"publish\n")
+
+
+def older_documents_that_get_one_body(n):
+    """Each is older than those that have the body already, whose names are many."""
+    older = b"".join(put(b"f%d" % number, b"text %d" % number) for number in range(n))
+    others = b"".join(put(b"g%d" % number, b"one abcd two defg") for number in range(n))
+    puts = b"".join(put(b"f%d" % number, b"one abcd two defg") for number in reversed(range(n)))
+    return after(older + others + b"publish\n" * 3, puts + b"publish\n" * 3)
 
 
 def loads_of_a_file(n):
@@ -445,6 +463,12 @@ def documents_whose_names_are_matched(n):
 
 def candidates_that_are_few(n):
     return after(published(n), b"search uvwxyz\n" * 10)
+
+
+def candidates_that_are_some(n):
+    """A hundred documents are candidates, less than an eighth of all, so they are looked up."""
+    some = b"".join(put(b"g%d" % number, own_body(b"uvwxyz", number)) for number in range(100))
+    return after(some + published(n), b"search uvwxyz.*q\n" * 20)
 
 
 def candidates_that_are_few_under_a_prefix(n):
@@ -645,12 +669,14 @@ Row = collections.namedtuple("Row", "growth n ways work memory", defaults=(BOTH,
 GROWTHS = [
     Row(new_documents, 500),
     Row(new_documents_that_are_filled_together, 600),
+    Row(documents_beside_one_that_is_filled, 400, (SESSION,), LEVEL, LEVEL),
     Row(documents_in_both_copies, 500, (SESSION,)),
     Row(replacements_of_a_document, 1000),
     Row(replacements_that_are_published, 500),
     Row(names_of_one_body, 500),
     Row(removes_of_names_of_one_body, 500),
     Row(second_names_for_a_while, 500),
+    Row(older_documents_that_get_one_body, 200, (SESSION,)),
     Row(loads_of_a_file, 500),
     Row(loads_that_fail, 500),
     Row(removes_of_nothing, 1000),
@@ -686,6 +712,7 @@ GROWTHS = [
     Row(lines_behind_a_limit, 10_000, (SESSION,), LEVEL, LEVEL),
     Row(documents_whose_names_are_matched, 500, (SESSION,)),
     Row(candidates_that_are_few, 1000, (SESSION,), LEVEL, LEVEL),
+    Row(candidates_that_are_some, 1_500, (SESSION,), LEVEL, LEVEL),
     Row(candidates_that_are_few_under_a_prefix, 400, (SESSION,), LEVEL, LEVEL),
     Row(names_after_a_prefix, 1000, (SESSION,), LEVEL, LEVEL),
     Row(prefixes_of_a_find, 1000, (SESSION,)),
@@ -815,6 +842,16 @@ def bodies_of_a_publish_are_analysed_by_all_threads(runs):
     puts = b"".join(put(b"f%d" % number, own_body(text_of_many_trigrams(20_000), number)) for number in range(9))
     alone, beside = (runs.memory(way, puts + b"publish\nsearch y\n").most for way in (SCRIPT, SCRIPT_BESIDE))
     yield "bytes in use at once where bodies are analysed side by side", beside, alone * 3 // 4, alone * 5 // 4
+
+
+def documents_are_filled_together_as_fast(runs):
+    """To put documents of over a MiB into the sets of their trigrams at one go takes little more than to put in one after the other."""
+    puts = [put(b"f%d" % number, own_body(text_of_many_trigrams(400) * 5, number)) for number in range(64)]
+    none, apart, together = (
+        runs.instructions(SESSION, b"".join(puts[:32] + [between] + puts[32:] + [end]))
+        for between, end in ((b"", b""), (b"publish\n", b"publish\n"), (b"", b"publish\n"))
+    )
+    yield "instructions to publish 1.3 MB at once", together - none, 0, (apart - none) * 3 // 2
 
 
 def documents_that_wait_for_a_publish(runs):
@@ -964,6 +1001,20 @@ def candidates_behind_a_limit_are_not_taken(runs):
     yield "bytes in use at once for 8,000 more candidates of a search with a limit", many[3] - few[3], 0, 8_000 * 10
 
 
+def limits_are_reached_early(runs):
+    """Of the first candidates of a search with a limit about a MiB is looked through in vain, if they are not enough. Once there are more lines
+    than are shown, no further body is matched that several documents have."""
+    large = b"".join(put(b"f%02d" % number, own_body(b"some text\n" * 6_000 + b"end\n" * (number == 79) * 10, number)) for number in range(80))
+    large += b"publish\n" * 3
+    none, whole, limited = (runs.instructions(SESSION, large + search) for search in (b"", b"find -- n.*d\n", b"find -m 1 -- n.*d\n"))
+    yield "instructions of a search with a limit that 80 documents of 60 KB do not reach", limited - none, 0, (whole - none) * 3 // 2
+    texts = [own_body((b"some end\n" if number == 0 else b"some text\n") * 20_000, number) for number in range(20)]
+    twice = b"".join(put(b"%s%02d" % (name, number), text) for number, text in enumerate(texts) for name in (b"f", b"g"))
+    twice += b"publish\n" * 3
+    none, whole, limited = (runs.instructions(SESSION, twice + search) for search in (b"", b"find -- m.*q\n", b"find -m 1 -- m.*d\n"))
+    yield "instructions of a search with a limit that the first of twenty bodies of two names reaches", limited - none, 0, (whole - none) // 4
+
+
 def patterns_are_compiled_once(runs):
     """A pattern is compiled for the first large body, not again for the next, and not at all if no document is left."""
     large = [b"".join(put(b"f%d" % number, own_body(b"some text\n" * 2000, number)) for number in range(count)) + b"publish\n" * 3 for count in (1, 4)]
@@ -1092,6 +1143,16 @@ def publishes_of_nothing_hold_nothing(runs):
     yield "bytes in use after 20,000 publishes", many, 0, few
     few, many = (runs.memory(SESSION, SMALL + (put(b"a", b"x") + b"publish\n") * count + b"search y\n").held for count in (1_000, 20_000))
     yield "bytes in use after 19,000 more replacements", many - few, -few, 16_384
+    few, many = (runs.memory(SESSION, SMALL + each(b"put a 5\n#\npublish\n", count, 10_000) + b"search y\n").held for count in (1_000, 20_000))
+    yield "bytes in use after 19,000 more replacements by other bodies", many - few, -few, 16_384
+
+
+def lanes_that_are_gone(runs):
+    """Nothing is left of a lane once its last search is answered."""
+    few, many = (
+        runs.memory(SESSION_OF_ONE_READER, SMALL + each(b"find --lane # -- o w\nsync\n", count) + b"search y\n").held for count in (1_000, 10_000)
+    )
+    yield "bytes in use after searches in 9,000 more lanes", many - few, -few, 65_536
 
 
 def searches_beside_others(runs):
@@ -1135,11 +1196,28 @@ def texts_of_a_session_are_formed_by_its_readers(runs):
 def searches_that_are_too_slow_are_read_once(runs):
     """A search that its reader has given up, since its time was over, takes no more memory than one that has an answer."""
     words, script = ["--live", "--readers", "1", "--search-ms", "5000"], SMALL + b"search (hello|world)+ *[a-z]+$\nsync\n" * 200
-    answered, text = runs.with_a_clock(words, script, STEP="0")
-    yield "searches of 200 that are too slow", text.count(b" refused: too slow"), 0, 0
-    given_up, text = runs.with_a_clock(words, script, STEP="10")
-    yield "searches of 200 that are too slow by a clock that goes on", text.count(b" refused: too slow"), 200, 200
-    yield "requests more for them", given_up - answered, -answered, 0
+    answered, given_up = (runs.with_a_clock(words, script, STEP=step) for step in ("0", "10"))
+    yield "searches of 200 that are too slow", answered.text.count(b" refused: too slow"), 0, 0
+    yield "searches of 200 that are too slow by a clock that goes on", given_up.text.count(b" refused: too slow"), 200, 200
+    yield "requests more for them", given_up.requests - answered.requests, -answered.requests, 0
+
+
+def turns_of_searches_that_are_too_slow(runs):
+    """A search that was stopped for another one, and then is too slow, leaves nothing. By this clock each search is stopped at once."""
+    words, base = ["--live", "--readers", "1", "--search-ms", "200000"], documents(300) + b"publish\n"
+    rounds = [base + b"search two.*q\nsearchin ^f0$ y\nsync\n" * count + b"search y\n" for count in (500, 8_000)]
+    few, many = (runs.with_a_clock(words, script, STEP="1") for script in rounds)
+    yield "searches of 8,000 that are too slow", many.text.count(b" refused: too slow"), 7_900, 8_500
+    yield "bytes in use after 7,500 more searches that are too slow", many.held - few.held, -few.held, 65_536
+
+
+def turns_of_a_search_are_added_up(runs):
+    """A search is stopped for each of 400 later ones, by a clock that goes on by a second each time that it is looked at. Its times show what it
+    worked in all of its turns, and not in the last one alone."""
+    script = documents(10_000) + b"publish\nsearch two.*q\n" + b"searchin ^f0$ y\n" * 400 + b"sync\n"
+    text = runs.with_a_clock(["--live", "--readers", "1", "--times"], script, STEP="1").text
+    worked = int(re.search(rb"search 1 version 10000 lines 0 waited \d+ worked (\d+)", text)[1])
+    yield "seconds that a search has worked that was stopped again and again", worked // 1_000_000, 100, 100_000
 
 
 def clocks_are_looked_at_seldom(runs):
@@ -1147,6 +1225,10 @@ def clocks_are_looked_at_seldom(runs):
     looks more are for its turn, and before and after a pattern is compiled."""
     made = runs.memory(SESSION_IN_TIME, put(b"a", b"some text\n" * 40_000) + b"publish\nsearch t\n")
     yield "looks at the clock for 40,000 lines", made.looks, 1, (400_000 + len(made.text)) // 65_536 + 40
+    # without such a limit there is only the turn to look for, where others wait, and none does behind a search that was stopped
+    slow = put(b"slow", slow_body(2, 16_000)) + documents(10_000) + b"publish\nsearchin ^slow$ %s\nsearch y\nsync\n" % SLOW
+    none, asked = (runs.memory(SESSION_OF_ONE_READER, slow + search).looks for search in (b"", b"search two\n"))
+    yield "looks at the clock for 10,000 documents behind a search that was stopped", asked - none, -none, 1_000
 
 
 def answers_of_readers_stand(runs):
@@ -1166,6 +1248,8 @@ def answers_of_readers_stand(runs):
     yield "instructions of the first thread for 20 searches of 1 MB that are stopped for later ones", asked - none, -none, 20 * 200_000
 
 
+
+
 def first_thread(runs, way, script):
     """The instructions of the thread that takes the items."""
     return runs.instructions_of_all_threads(way, script)[0]
@@ -1176,8 +1260,7 @@ def limits_of_time_are_kept(runs):
     for limit in 60_000, 100_000, 20_000_000, 2_200_000_000, 4_294_967_295:
         for more in -10, 10:
             words = ["--readers", "0", "--search-ms", str(limit)]
-            _, text = runs.with_a_clock(words, SMALL + b"search o w\n", JUMP=str(limit // 1_000 + more))
-            late = text.count(b" refused: too slow")
+            late = runs.with_a_clock(words, SMALL + b"search o w\n", JUMP=str(limit // 1_000 + more)).text.count(b" refused: too slow")
             yield f"searches with {limit} ms that are too slow {more:+} s from their end", late, int(more > 0), int(more > 0)
 
 
@@ -1188,7 +1271,7 @@ def searches_have_no_limit_without_a_clock(runs):
     for readers in "0", "1":
         words = ["--readers", readers, "--search-ms", "1"]
         for what, clock, late in ("that goes", {}, 1), ("that cannot be read", {"BROKEN": "1"}, 0):
-            _, text = runs.with_a_clock(words, script, **clock)
+            text = runs.with_a_clock(words, script, **clock).text
             yield f"searches that are too slow by a clock {what}, with {readers} readers", text.count(b" refused: too slow"), late, late
             yield f"searches that are answered with a clock {what}, with {readers} readers", text.count(b"search 1 version 2 lines "), 1 - late, 1 - late
 
@@ -1249,6 +1332,8 @@ def copies_are_brought_up_to_date_once(runs):
     does none of this again."""
     pending, shown = (runs.instructions_of_a_talk(SESSION_OF_ONE_READER, put(b"a", b"x") + b"publish\n" * count, 200) for count in (0, 1))
     yield "instructions of the first thread for 200 waits behind a publish", shown - pending, -pending, 200 * 500
+    removed = runs.instructions_of_a_talk(SESSION_OF_ONE_READER, put(b"a", b"x") + b"publish\nremove a\n", 200)
+    yield "instructions of the first thread for 200 waits behind a remove", removed - shown, -shown, 200 * 250
     first, both = (runs.instructions(SESSION, documents(1000) + b"publish\n" * count) for count in (1, 2))
     copy = both - first
     pending, once, twice = (
@@ -1354,6 +1439,7 @@ CHECKS = [
     copies_of_a_body,
     documents_are_analysed_once,
     bodies_of_a_publish_are_analysed_by_all_threads,
+    documents_are_filled_together_as_fast,
     documents_that_wait_for_a_publish,
     trigrams_that_one_document_has,
     documents_that_are_gone,
@@ -1366,6 +1452,7 @@ CHECKS = [
     room_for_candidates,
     lists_are_passed_in_blocks,
     candidates_behind_a_limit_are_not_taken,
+    limits_are_reached_early,
     patterns_are_compiled_once,
     lines_are_matched_once,
     contents_are_matched_once,
@@ -1377,6 +1464,7 @@ CHECKS = [
     items_that_take_no_memory,
     puts_that_are_refused_are_not_analysed,
     publishes_of_nothing_hold_nothing,
+    lanes_that_are_gone,
     searches_beside_others,
     texts_are_formed_beside_one_another,
     texts_of_a_session_are_formed_by_its_readers,
@@ -1385,6 +1473,8 @@ CHECKS = [
     answers_of_readers_stand,
     limits_of_time_are_kept,
     searches_that_are_too_slow_are_read_once,
+    turns_of_searches_that_are_too_slow,
+    turns_of_a_search_are_added_up,
     searches_that_wait_are_few,
     searches_come_before_the_second_copy,
     parts_of_a_search_are_even,
