@@ -553,6 +553,11 @@ def documents_beside_many_publishes(n):
     return after(published(n), (put(b"g", b"abc") + b"publish\n") * 100)
 
 
+def searches_behind_many_commands(n):
+    """The numbers of a hundred documents are far from the first ones."""
+    return after(b"put a 1\nx\nremove a\n" * n + published(100), b"search two\n" * 20)
+
+
 def documents_while_some_are_replaced(n):
     return after(published(n), b"".join(put(b"f%d" % (n * at // 16), own_body(b"one abcd two defg", n + at)) for at in range(16)) + b"publish\n")
 
@@ -731,6 +736,7 @@ GROWTHS = [
     Row(documents_while_the_first_is_replaced, 1000, (SESSION,), LEVEL, LEVEL),
     Row(documents_while_the_last_is_replaced, 1000, (SESSION,), LEVEL, LEVEL),
     Row(documents_beside_many_publishes, 1000, (SESSION,), 1.3, LEVEL),
+    Row(searches_behind_many_commands, 4_000, (SESSION,), LEVEL, LEVEL),
     Row(documents_while_some_are_replaced, 1000, (SESSION,)),
     Row(documents_while_some_are_removed, 1000, (SESSION,)),
     Row(columns_far_along_a_line, 3_000, (SESSION,), 6),
