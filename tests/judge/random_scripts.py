@@ -19,7 +19,8 @@ READERS = [0, 1, 2, 3, 16]
 # What a script is like: its share of all scripts, the numbers of documents to begin with and of items behind them, each the least and the
 # greatest, and how often each item is there.
 Kind = collections.namedtuple("Kind", "share documents items weights")
-EVEN = {"put": 8, "load": 2, "remove": 3, "removeunder": 1, "copyunder": 2, "publish": 5, "search": 12, "find": 20, "cancel": 8, "status": 3, "sync": 2, "bad": 2, "nothing": 1}
+EVEN = {"put": 8, "load": 2, "remove": 3, "removeunder": 1, "copyunder": 2, "publish": 5, "search": 12, "find": 20, "cancel": 8, "status": 3, "sync": 2}
+EVEN.update(bad=2, nothing=1)
 SEARCHES = {**EVEN, "put": 4, "remove": 1, "publish": 3, "search": 20, "find": 60}
 TYPED = {"put": 2, "remove": 1, "copyunder": 1, "publish": 2, "search": 3, "typed": 40, "status": 1}
 COPIED = {"copyunder": 12, "removeunder": 4, "put": 3, "publish": 8, "search": 4, "find": 14, "cancel": 5, "status": 4, "sync": 2}
@@ -41,12 +42,14 @@ LANES = [b"a", b"b", b"--", b"-m", b"\xff", b"x" * 64]
 BAD_NAMES = [b"", b"a b", b"a\x7f", b"\ta", b"n" * 256, b"n" * 4_097]
 BAD_BODIES = [b"a\0b", b"\0", b"x" * 16_385, b"a\n" + b"b" * 16_385 + b"\n"]
 TOO_LONG = (b"ab " * 50 + b"\n") * 6_945
-BAD_PATTERNS = [b"(a", b"a{2,1}", b"*a", b"b|*", b"^+", b"[a", b"[b-a]", b"[[:x:]]", b"a\\", b"\\w", b"a\0", b"a" * 1_025, b"(a{255}){17}", b"(" * 65 + b")" * 65, b"a" + b"?" * 64]
+BAD_PATTERNS = [b"(a", b"a{2,1}", b"*a", b"b|*", b"^+", b"[a", b"[b-a]", b"[[:x:]]", b"a\\", b"\\w", b"a\0", b"a" * 1_025, b"(a{255}){17}"]
+BAD_PATTERNS += [b"(" * 65 + b")" * 65, b"a" + b"?" * 64]
 BAD_LINES = [b"pull", b"PUT a 1", b" publish", b"publish ", b"publish\r", b"sync 1", b"status 1", b"cancel", b"cancel 1x", b"cancel -1", b"remove", b"removeunder"]
 BAD_LINES += [b"copyunder a", b"load a", b"load a ", b"searchin a", b"isearchin b", b"findx -- a", b"\xef\xbb\xbfpublish", b"\0"]
 NOTHING = [b"", b"#", b"# search a"]
 # What can be last: a put that ends the script, or one that ends with it.
-ENDS = [b"put\n", b"put \n", b"put a\n", b"put a x\n", b"put a 1234567890\n", b"put a 1\nab\n", b"put a 5\nab", b"put a 99999999\nab\n", b"put a 1", b"put a 2\nab", b"publish", b"search a"]
+ENDS = [b"put\n", b"put \n", b"put a\n", b"put a x\n", b"put a 1234567890\n", b"put a 1\nab\n", b"put a 5\nab", b"put a 99999999\nab\n", b"put a 1", b"put a 2\nab"]
+ENDS += [b"publish", b"search a"]
 
 # The files of a folder that a load can find, and paths at which it finds none.
 FILES = {b"plain": b"ab\nb a\n\naB", b"two words": b"a b\n", b"empty": b"", b"zero": b"a\0b\n", b"folder/line": b"x" * 16_385, b"folder/long": TOO_LONG}

@@ -2,14 +2,14 @@
 """Random use at length: judges what the built program makes of random scripts, until a million searches are judged.
 
 The scripts have every item and option (random_scripts.py). Each is run, sent to a session at once or in parts with pauses, and sent to
-one that waits for its answers again and again, each with another number of readers; some runs and sessions read a file. Those with little memory are run, and sent, in so
-little address space that it is used up somewhere: then a refusal for memory is legal, and a wrong or a lost answer is not. Every text is
-judged by transcripts.py. What is seen is counted: searches by what becomes of them and by their options, items that are accepted, and
-refusals by their reasons. Of each kind there must be so many at least. In some legal texts wrong answers are planted, each wrong in one
-thing, and the judge must refuse them. As many scripts are tried at once as there are processors.
+one that waits for its answers again and again, each with another number of readers; some runs and sessions read a file. Those with
+little memory are run, and sent, in so little address space that it is used up somewhere: then a refusal for memory is legal, and a wrong
+or a lost answer is not. Every text is judged by transcripts.py. What is seen is counted: searches by what becomes of them and by their
+options, items that are accepted, and refusals by their reasons. Of each kind there must be so many at least. In some legal texts wrong
+answers are planted, each wrong in one thing, and the judge must refuse them. As many scripts are tried at once as there are processors.
 
 Usage: tests/judge/random_use.py [--searches N] [--seed N] [--only K]   The last line counts: N passed, M failed. N is how many searches
-are judged at least. A fault names the number of its script: --only K tries that one alone.
+are judged at least. A fault names the number of its script: --only K tries that one alone, and shows it with each fault.
 """
 
 import argparse
@@ -45,7 +45,7 @@ LONG_ANSWER = 1_000
 ONE_IN, MOST_BYTES, ANSWERS_OF_A_TEXT = 15, 200_000, 3
 # A fault is shown with so many characters.
 MOST_SHOWN = 2_000
-# Each kind that must be seen is seen at least once in so many searches.
+# Each kind that must be seen is seen at least once in so many searches; fewer ask for none.
 SEARCHES_OF_A_KIND = 20_000
 
 ACCEPTED = "put load remove removeunder copyunder publish sync status cancel".split()
@@ -60,8 +60,9 @@ OF_FINDS += ["options exclude each other", "no -- before the pattern"]
 OF_SEARCHES = ["cancelled", "too slow", "out of memory", *OF_PATTERNS, *OF_FINDS]
 ANSWERS = ["lines", f"{LONG_ANSWER} rows or more", "more lines than are shown", "candidates", "times"]
 INPUTS = ["of runs", "of sessions", "in a file"]
-PLANTED = ["a row left out", "a row with another text", "an older version", "rows of an older version", "one of two names left out", "an entry left out", "an entry twice"]
-PLANTED += ["an answer behind a sync", "an answer after its cancel", "a cancel of none", "a status off by one", "another reason", "more candidates than documents"]
+PLANTED = ["a row left out", "a row with another text", "an older version", "rows of an older version", "one of two names left out", "an entry left out"]
+PLANTED += ["an entry twice", "an answer behind a sync", "an answer after its cancel", "a cancel of none", "a status off by one", "another reason"]
+PLANTED += ["more candidates than documents"]
 WANTED = [("scripts with", kind) for kind in random_scripts.KINDS]
 WANTED += [("accepted", kind) for kind in ACCEPTED] + [("lines refused", reason) for reason in OF_LINES] + [("searches refused", reason) for reason in OF_SEARCHES]
 WANTED += [("answers with", what) for what in ANSWERS] + [("found lines by", option.decode()) for option in [*searches.OPTIONS, *searches.OTHERS]]
@@ -121,7 +122,8 @@ def talk(words, parts, kilobytes=None):
             pass  # it has ended
 
     with tempfile.TemporaryFile() as messages:
-        program = subprocess.Popen([PROGRAM, *words], stdin=subprocess.PIPE, stdout=subprocess.PIPE, stderr=messages, cwd=FOLDER.name, preexec_fn=limit, env=environment)
+        how = {"stderr": messages, "cwd": FOLDER.name, "preexec_fn": limit, "env": environment}
+        program = subprocess.Popen([PROGRAM, *words], stdin=subprocess.PIPE, stdout=subprocess.PIPE, **how)
         ends, sender = threading.Timer(SECONDS, program.kill), threading.Thread(target=send)
         ends.start()
         sender.start()
@@ -151,14 +153,14 @@ def cut_anywhere(chance, script):
 
 
 def with_waits(chance, items, last):
-    """The parts of a session that waits: behind some items until all searches are answered, which a status shows."""
+    """The parts of a session that waits: behind some items until all searches are answered, which a status shows, and mostly no longer."""
     parts, part, line = [], b"", 1
     for item in items:
         part += item
         if chance.randrange(12) == 0:
             part += b"sync\nstatus\n"
             line += part.count(b"\n")
-            parts.append((part, b"line %d status " % (line - 1)))
+            parts += [(part, b"line %d status " % (line - 1)), (b"", chance.choice([0, 0, 0.01]))]
             part = b""
     return [*parts, (part + last, 0)]
 
@@ -296,15 +298,17 @@ def wrong_texts(chance, items, entries, run):
         sync = next((other for other in range(place, len(items)) if items[other].kind == "sync"), len(items))
         behind = [other for other in range(at + 1, len(entries)) if places[entries[other][:2]] > sync]
         if behind:
-            yield "an answer behind a sync", b"".join(entries[other].text for other in [*range(at), *range(at + 1, behind[0] + 1), at, *range(behind[0] + 1, len(entries))])
+            order = [*entries[:at], *entries[at + 1 : behind[0] + 1], entry, *entries[behind[0] + 1 :]]
+            yield "an answer behind a sync", b"".join(one.text for one in order)
     for at in chance.sample(range(len(entries)), min(len(entries), 1)):
         yield "an entry left out", changed(at)
         yield "an entry twice", changed(at, entries[at].text, entries[at].text)
     cancelled = [at for at, entry in enumerate(entries) if entry.reason == "cancelled"]
     for at in cancelled[:1]:
-        place = places["search", entries[at].number]
+        entry, place = entries[at], places["search", entries[at].number]
         version = run.last_published(place)
-        yield "an answer after its cancel", changed(at, entries[at].text, b"search %d version %d %s\n%s" % (entries[at].number, version, *run.answer(items[place].words["line"], version)))
+        answer = b"search %d version %d %s\n%s" % (entry.number, version, *run.answer(items[place].words["line"], version))
+        yield "an answer after its cancel", changed(at, entry.text, answer)
     statuses = [at for at, entry in enumerate(entries) if entry.reason is None and entry.version is None]
     for at in statuses[:1]:
         numbers = list(re.finditer(rb"\d+", entries[at].text))[:6]
@@ -360,8 +364,8 @@ def fault_of(way, chance, seen, is_planted):
     return None
 
 
-def tried(seed, number, start):
-    """What is wrong with the ways of a script, how many texts are judged, and what is seen."""
+def tried(seed, number, start, is_shown):
+    """What is wrong with the ways of a script, which is shown with it or not, how many texts are judged, and what is seen."""
     chance, seen, faults, texts = random.Random(f"{seed} {number}"), Seen(), [], 0
     kind = random_scripts.random_kind(chance)
     seen.notes("scripts with", kind)
@@ -372,7 +376,8 @@ def tried(seed, number, start):
         except (searches.Refused, AttributeError, LookupError, OSError, TypeError, ValueError) as wrong:
             fault = repr(wrong)
         if fault:
-            faults.append(f"script {number}, {kind}, with {way.shown()}: {fault[:MOST_SHOWN]}")
+            shown = f"{fault}: {way.script!r}" if is_shown else fault[:MOST_SHOWN]
+            faults.append(f"script {number}, {kind}, with {way.shown()}: {shown}")
     return faults, texts, seen.counts
 
 
@@ -399,9 +404,9 @@ def main():
     need_program()
     counted, counts, began, shown = Counted(), collections.Counter(), time.monotonic(), 0
     with concurrent.futures.ProcessPoolExecutor(os.cpu_count(), initializer=make_folder) as pool:
-        start = pool.submit(least_memory).result()
+        how = pool.submit(least_memory).result(), given.only is not None
         numbers = iter([given.only]) if given.only is not None else iter(range(10**9))
-        jobs = {pool.submit(tried, given.seed, number, start) for _, number in zip(range(4 * os.cpu_count()), numbers)}
+        jobs = {pool.submit(tried, given.seed, number, *how) for _, number in zip(range(4 * os.cpu_count()), numbers)}
         while jobs:
             done, jobs = concurrent.futures.wait(jobs, return_when=concurrent.futures.FIRST_COMPLETED)
             for job in done:
@@ -410,14 +415,14 @@ def main():
                 counted.judge(faults)
                 counted.passes(texts - len(faults))
                 if judged(counts) < given.searches and (number := next(numbers, None)) is not None:
-                    jobs.add(pool.submit(tried, given.seed, number, start))
+                    jobs.add(pool.submit(tried, given.seed, number, *how))
             took = time.monotonic() - began
             if took > shown + SECONDS_OF_PROGRESS:
                 shown = took
                 print("%d of %d searches judged in %d s" % (judged(counts), given.searches, took), flush=True)
     show(counts, took)
     if given.only is None:
-        least = max(judged(counts) // SEARCHES_OF_A_KIND, 1)
+        least = judged(counts) // SEARCHES_OF_A_KIND
         counted.judge(None if counts[kind] >= least else "%s %s: %d, and should be %d or more" % (*kind, counts[kind], least) for kind in WANTED)
     counted.end()
 
