@@ -1254,8 +1254,6 @@ def answers_of_readers_stand(runs):
     yield "instructions of the first thread for 20 searches of 1 MB that are stopped for later ones", asked - none, -none, 20 * 200_000
 
 
-
-
 def first_thread(runs, way, script):
     """The instructions of the thread that takes the items."""
     return runs.instructions_of_all_threads(way, script)[0]
