@@ -205,5 +205,7 @@ def words_of(options):
     return words + (["--search-ms", str(options["search_ms"])] if "search_ms" in options else [])
 
 
-def random_kind(chance):
-    return chance.choices(list(KINDS), [kind.share for kind in KINDS.values()])[0]
+def random_kind(chance, number):
+    """The kind of the script with this number. The first scripts have one each."""
+    kinds = list(KINDS)
+    return kinds[number] if number < len(kinds) else chance.choices(kinds, [kind.share for kind in KINDS.values()])[0]

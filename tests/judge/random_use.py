@@ -367,7 +367,7 @@ def fault_of(way, chance, seen, is_planted):
 def tried(seed, number, start, is_shown):
     """What is wrong with the ways of a script, which is shown with it or not, how many texts are judged, and what is seen."""
     chance, seen, faults, texts = random.Random(f"{seed} {number}"), Seen(), [], 0
-    kind = random_scripts.random_kind(chance)
+    kind = random_scripts.random_kind(chance, number)
     seen.notes("scripts with", kind)
     for way in ways_of(chance, kind, start):
         texts += 1
