@@ -1230,7 +1230,7 @@ def clocks_are_looked_at_seldom(runs):
     """A search with a limit of time looks at the clock for each 64 KiB that is matched, and for each 64 KiB of text, not for each line. Some
     looks more are for its turn, and before and after a pattern is compiled."""
     made = runs.memory(SESSION_IN_TIME, put(b"a", b"some text\n" * 40_000) + b"publish\nsearch t\n")
-    yield "looks at the clock for 40,000 lines", made.looks, 1, (400_000 + len(made.text)) // 65_536 + 40
+    yield "looks at the clock for 40,000 lines", made.looks, 1, (400_000 + len(made.text)) // 65_536 + 60
     # without such a limit there is only the turn to look for, where others wait, and none does behind a search that was stopped
     slow = put(b"slow", slow_body(2, 16_000)) + documents(10_000) + b"publish\nsearchin ^slow$ %s\nsearch y\nsync\n" % SLOW
     none, asked = (runs.memory(SESSION_OF_ONE_READER, slow + search).looks for search in (b"", b"search two\n"))
