@@ -1348,6 +1348,18 @@ def copies_are_brought_up_to_date_once(runs):
     yield "instructions of the first thread for a second publish, beside the two copies", twice - once, -copy // 4, copy // 4
 
 
+def numbers_of_documents_may_be_even(runs):
+    """Between two of 256 documents there are commands that change nothing, so that the numbers differ by multiples of 512, which is just twice
+    256, or of 511."""
+    counts = []
+    for step in (512, 511):
+        between = put(b"z", b"x") * (step - 1)
+        script = b"".join(put(b"f%d" % number, own_body(b"two", number)) + between for number in range(256)) + b"publish\n" * 3
+        counts.append(runs.instructions(SESSION, script + b"find -q -- two\n" * 20) - runs.instructions(SESSION, script))
+    even, odd = counts
+    yield "instructions of searches of documents whose numbers differ by multiples of 512", even, odd // 2, odd * 9 // 8
+
+
 def small_documents_are_searched_as_a_large_one(runs):
     """Beyond the first 8 KiB, lines are not looked at one by one, however small the documents are."""
     one = put(b"a", b"some text\n" * 20_000) + b"publish\n" * 3
@@ -1485,6 +1497,7 @@ CHECKS = [
     parts_of_a_search_are_gone_through_once,
     publishes_change_one_copy,
     copies_are_brought_up_to_date_once,
+    numbers_of_documents_may_be_even,
     small_documents_are_searched_as_a_large_one,
     memory_of_what_is_short,
     bodies_are_gone_through_fast,
