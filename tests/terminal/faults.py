@@ -400,13 +400,19 @@ def a_version_that_differs_restarts_it(place):
         raise Wrong("it is the same server")
 
 
+def a_program_that_waits(place, before):
+    """Has calls use a script that does this before it becomes the program, where WAIT waits for a file of its name and `.go`."""
+    script = pathlib.Path(place.environment["HOME"], "waits")
+    wait = f"while [ ! -e '{script}.go' ]; do sleep 0.05; done"
+    script.write_text(f"#!/bin/sh\n{before.replace('WAIT', wait)}\nexec '{place.program}' \"$@\"\n", encoding="ascii")
+    script.chmod(0o755)
+    place.environment["TSEARCH"] = str(script)
+    return script
+
+
 def a_program_that_is_compiled_first(place):
     """As by the first call in a clone: the program is a new one once it runs, and the server stays."""
-    compiled = pathlib.Path(place.environment["HOME"], "compiled")
-    waits = f"while [ ! -e '{compiled}.go' ]; do sleep 0.05; done"
-    compiled.write_text(f"#!/bin/sh\ntouch -d 2001-01-01 \"$0\"\n{waits}\nexec '{place.program}' \"$@\"\n", encoding="ascii")
-    compiled.chmod(0o755)
-    place.environment["TSEARCH"] = str(compiled)
+    compiled = a_program_that_waits(place, "touch -d 2001-01-01 \"$0\"\nWAIT")
     place.write("a", b"foo\n")
     with concurrent.futures.ThreadPoolExecutor(2) as pool:
         calls = [pool.submit(place.call, "foo")]
@@ -797,11 +803,7 @@ def each_use_is_counted(place):
 
 def files_are_searched_while_the_tree_is_loaded(place):
     """A call for a file alone does not wait for the tree, and one for the tree does."""
-    slow = pathlib.Path(place.environment["HOME"], "slow")
-    waits = f"while [ ! -e '{slow}.go' ]; do sleep 0.05; done"
-    slow.write_text(f"#!/bin/sh\ncase \"$*\" in *'--readers 0'*) ;; *) {waits} ;; esac\nexec '{place.program}' \"$@\"\n", encoding="ascii")
-    slow.chmod(0o755)
-    place.environment["TSEARCH"] = str(slow)
+    slow = a_program_that_waits(place, "case \"$*\" in *'--readers 0'*) ;; *) WAIT ;; esac")
     place.write("a", b"foo\n")
     place.write("b", b"foo\n")
     with concurrent.futures.ThreadPoolExecutor(1) as pool:
