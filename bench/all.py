@@ -7,7 +7,8 @@ the processors' time was used meanwhile, and how much of it the host took. A scr
 has all of it, as a page to be added to results/.
 
 The small programs are built first, side by side, since nothing is measured yet. One that is not built then is built by its script,
-which says why it can't be.
+which says why it can't be. If the variable SMALL_PROGRAMS names a folder, they are built there, and one that is there already is taken.
+readings.py does not run here, since it takes longest: its program is proved for twenty minutes and measures one crate by itself.
 
 With --only, only the scripts of these names run. Nothing else should run meanwhile: if the load average of the last minute is over
 1.0, nothing is measured, unless --anyway is given.
@@ -54,7 +55,6 @@ def runs_over(small, large, more, headers):
         ("lists", [small]),
         ("lists", [large]),
         ("trigrams", [headers]),
-        ("readings", [small]),
         ("preparing", ["1"]),
         ("stack", []),
         ("levels", []),
@@ -90,7 +90,6 @@ SECTIONS = {
     "limits": "Line by line or compiled",
     "lists": "Posting lists",
     "trigrams": "Trigrams and queries",
-    "readings": "Readings",
     "preparing": "What preparing takes",
     "stack": "Stack",
     "levels": "Stack for a level",
@@ -208,9 +207,9 @@ def main():
         build.need_program()
     os.makedirs(given.results, exist_ok=True)
     worst = 0
-    with open(os.path.join(given.results, "machine.txt"), "a") as told, tempfile.TemporaryDirectory() as folder:
+    with open(os.path.join(given.results, "machine.txt"), "a") as told, tempfile.TemporaryDirectory() as scratch:
         told.write("\n".join(about_machine()) + "\n")
-        what = build_small_programs([name for name in build.USED if name in {script for script, _ in asked}], folder)
+        what = build_small_programs([name for name in build.USED if name in {script for script, _ in asked}], build.MADE or scratch)
         print(what, flush=True)
         told.write(what + "\n")
         for number, (script, folders) in enumerate(asked, 1):

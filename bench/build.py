@@ -14,7 +14,7 @@ PROVED = os.path.join(TOP, "out", "proved")
 COMPILED = os.path.join(TOP, "out", "compiled", "tsearch")
 # If the variable TSEARCH names a program, that one is measured.
 PROGRAM = os.environ.get("TSEARCH") or os.path.join(PROVED, "tsearch")
-# The folder in which all.py has built the small programs, if it did.
+# The folder in which all.py builds the small programs, or has built them.
 MADE = os.environ.get("SMALL_PROGRAMS")
 # A text that only a program that is compiled with checks has.
 MARK = b"compiled with checks, and not proved"
@@ -23,12 +23,12 @@ MARK = b"compiled with checks, and not proved"
 USED = {
     "levels": ["ere", "matcher", "query"],
     "limits": ["ere", "engine", "lines", "matcher"],
-    "lists": ["ere", "trigram", "index"],
+    "lists": ["ere", "trigram", "index", "prefixes", "watch"],
     "matching": ["ere", "lines", "matcher"],
     "preparing": ["ere", "trigram"],
     "readings": ["index", "prepare", "search", "published"],
     "stack": ["ere", "lines", "matcher"],
-    "trigrams": ["ere", "trigram", "index"],
+    "trigrams": ["ere", "trigram", "index", "prefixes", "watch"],
 }
 PARTS = {"lists": ["lists", "selection"], "trigrams": ["trigrams", "selection"]}
 
