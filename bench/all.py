@@ -28,7 +28,7 @@ TOOLS = [["rt", "version"], ["rg", "--version"], ["grep", "--version"], ["dpkg-q
 
 
 def runs_over(small, large, more, headers):
-    """The scripts in their order, each with its words."""
+    """The scripts in their order, each with its words: what people meet, and then the libraries."""
     trees = [small, large, *more]
     return [
         ("trees", [small]),
@@ -40,6 +40,10 @@ def runs_over(small, large, more, headers):
         ("waits", trees),
         *[("contents", [tree]) for tree in more],
         ("turns", [small]),
+        ("tgrep", trees),
+        ("editor", [small]),
+        ("host", [small]),
+        ("missing", more),
         ("sessions", [headers]),
         ("cancels", [headers]),
         ("prefixes", [small]),
@@ -59,10 +63,6 @@ def runs_over(small, large, more, headers):
         ("stack", []),
         ("levels", []),
         ("refused", [*trees, headers]),
-        ("missing", more),
-        ("tgrep", trees),
-        ("editor", [small]),
-        ("host", [small]),
     ]
 
 

@@ -3,7 +3,7 @@
 A virtual machine shares its processors and its memory with others, and is slow while these are busy. So a short loop and
 a copy of memory are timed before and after each measurement, and compared with the least time seen of each. If one of them
 takes over a fifth longer, the machine is busy: then the measurement waits, for 20 seconds at most, or is made again, up to
-three times in all. Once a script has spent 90 seconds on waiting and on such measurements, it waits no more, and makes none
+three times in all. Once a script has spent 30 seconds on waiting and on such measurements, it waits no more, and makes none
 again.
 """
 import re
@@ -13,7 +13,7 @@ import time
 ALLOWED = 1.2
 WAIT = 20
 TRIES = 3
-ALL_WAITS = 90
+ALL_WAITS = 30
 TURNS = 3
 LOOPS = 1_000_000
 COPIED = 64 << 20
