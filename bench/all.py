@@ -96,7 +96,7 @@ SECTIONS = {
     "refused": "Files with long lines",
     "missing": "Lines that are missing",
 }
-SCRIPTS = list(dict.fromkeys(script for script, _ in runs_over("", "", [], "")))
+SCRIPTS = list(dict.fromkeys(script for script, _ in runs_over("", "", [""], "")))
 # These measure no program, or build one of their own.
 WITHOUT_PROGRAM = {*build.USED, "refused"}
 
