@@ -79,6 +79,7 @@ SECTIONS = {
     "editor": "The editor",
     "sessions": "Sessions with readers",
     "cancels": "Cancels and limits of time",
+    "prefixes": "Prefixes of names",
     "readers": "Readers",
     "cluster": "Clusters",
     "growth": "First publish, memory and changes",

@@ -1,11 +1,13 @@
 """What is large, and lines that are long: python3 bench/extremes.py.
 
-Prints five tables:
+Prints six tables:
 
 - answers of 16.8 million lines, which the empty pattern finds in 16 documents of a MiB of line feeds, with 0, 2 and 4 readers: the
   seconds and the most resident memory of a run and of a session;
 - the column and the spans of one long line, for patterns that are hard for them. A search of less than a second is measured five times,
   and its least time is shown;
+- searches in one line of 5 MB of words: a rare one, whose line is written and only counted, and the spans of all words, with 0 and 4
+  readers;
 - searches by name among 200,000 documents of one line, 400 of them in a folder: the names that begin with the folder's, and all names
   that have it in them;
 - the resident memory of sessions that replace documents of 500 bytes, with a publish after each round: the least and the most of what
@@ -27,6 +29,7 @@ LOOKS = 30
 REPLACED = [(1, 300_000), (1_000, 300)]
 REFUSED = (1 << 20, 1 << 22)
 LONG = 16_384
+LONG_LINE = 5_000_000
 HARD = "((((((a*b)*a)*b)*a)*b)*a)*e|a"
 SPANS = [
     ("(a|aa)*b|a", "1,024 `a`", b"a" * 1_024),
@@ -74,6 +77,18 @@ def spans():
     session.end()
 
 
+def long_line():
+    words = b"".join(b"value_%d = next(%x, y); " % (number, number * 7_919) for number in range(200_000))
+    line = words[: LONG_LINE // 2] + b" sched_setaffinity " + words[LONG_LINE // 2 : LONG_LINE]
+    searches = ("search sched_setaffinity", "find -c -- sched_setaffinity", "find --spans -- [a-z]+")
+    command.head(["readers", *("`%s` ms" % search for search in searches)], "One line of %.1f MB" % (len(line) / 1e6))
+    for readers in (0, 4):
+        session = client.Session("--readers", str(readers), "--max-body", str(1 << 26), "--max-line", str(1 << 26))
+        session.put_all({b"long": line + b"\n"}, b"search zzqqxxyy\n")
+        command.row(readers, *("%.1f" % (1000 * quickest(session, search.encode() + b"\n")) for search in searches))
+        session.end()
+
+
 def names():
     session = client.Session("--readers", "0")
     documents = {b"d%03d/f%03d" % (number // FILES, number % FILES): b"http://host/%d\n" % number for number in range(FOLDERS * FILES)}
@@ -116,6 +131,7 @@ def main():
     with tempfile.TemporaryDirectory() as target:
         large_answers(os.path.join(target, "script"))
         spans()
+        long_line()
         names()
         replacements()
         refused_lines(os.path.join(target, "script"))

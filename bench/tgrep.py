@@ -1,10 +1,11 @@
 #!/usr/bin/env python3
-"""Whole commands of tgrep beside those of rg and grep: the median and the least of so many calls after the first.
+"""Whole commands of tgrep beside those of rg, ugrep, grep and csearch: the median and the least of so many calls after the first.
 
 Usage: bench/tgrep.py [--calls N] FOLDER..     The outputs go to a pipe that is read. All begin in the folder, and search it whole.
 
 For each folder: the first call, with the start of its server; a rare word and a common one; a rare word right after a file has changed
-(the file is one of a copy of the folder). It says how loaded the machine is, and takes no quiet one for granted.
+(the file is one of a copy of the folder). csearch has its index made before, and knows of no change. It says how loaded the machine
+is, and takes no quiet one for granted.
 """
 
 import argparse
@@ -20,10 +21,14 @@ import time
 TOP = pathlib.Path(__file__).resolve().parent.parent
 TGREP = [str(TOP / "tgrep")]
 RARE, COMMON = "sched_setaffinity", "return"
+# What stands for the pattern in a command.
+PATTERN = "PATTERN"
 OTHERS = {
-    "rg": ["rg", "-uuu", "-a", "--no-unicode", "-n"],
-    "rg -j1": ["rg", "-j1", "-uuu", "-a", "--no-unicode", "-n"],
-    "grep": ["grep", "-rnE"],
+    "rg": ["rg", "-uuu", "-a", "--no-unicode", "-n", PATTERN, "."],
+    "rg -j1": ["rg", "-j1", "-uuu", "-a", "--no-unicode", "-n", PATTERN, "."],
+    "ugrep": ["ugrep", "-rnE", "-a", "-U", "--hidden", PATTERN, "."],
+    "grep": ["grep", "-rnE", PATTERN, "."],
+    "csearch": ["csearch", "-n", PATTERN],
 }
 
 
@@ -62,11 +67,14 @@ def measure(folder, calls):
     subprocess.run([*tgrep, "--stop"], cwd=folder, stdin=subprocess.DEVNULL, capture_output=True, check=False)
     first, _ = seconds_of([*tgrep, RARE], folder)
     print(f"{folder}: first call {first:.2f} s\n{'':28}  median    least     lines")
+    if shutil.which("cindex"):
+        subprocess.run(["cindex", "-reset", folder], stdin=subprocess.DEVNULL, capture_output=True, check=False)
     for pattern in RARE, COMMON:
         print(f"{pattern:18} {'tgrep':8} {row_of([*tgrep, pattern], folder, calls)}")
         for name, words in OTHERS.items():
             if shutil.which(words[0]):
-                print(f"{pattern:18} {name:8} {row_of([*words, pattern, '.'], folder, calls)}")
+                command = [pattern if word == PATTERN else word for word in words]
+                print(f"{pattern:18} {name:8} {row_of(command, folder, calls)}")
     change = changed_in(folder)
     print(f"{'changed right before':18} {'tgrep':6} {row_of([*tgrep, 'changed_line'], folder, calls, change)}")
     subprocess.run([*tgrep, "--stop"], cwd=folder, stdin=subprocess.DEVNULL, capture_output=True, check=False)
@@ -80,6 +88,7 @@ def main():
     version = subprocess.run([str(TOP / "tsearch"), "--version"], stdout=subprocess.PIPE, check=False).stdout.decode().strip()
     print(f"{version}; load {os.getloadavg()[0]:.1f} before")
     with tempfile.TemporaryDirectory() as room:
+        os.environ["CSEARCHINDEX"] = os.path.join(room, "csearchindex")
         for number, folder in enumerate(given.folders):
             copy = os.path.join(room, str(number))
             shutil.copytree(folder, copy, symlinks=True)
