@@ -35,13 +35,17 @@ class Session:
         data = memoryview(items)
         while data:
             data = data[self.process.stdin.write(data) :]
-        text = b""
-        while b"\n" not in text or text.count(b"\n") <= int(text.partition(b"\n")[0].split()[5]):
-            text += self.process.stdout.read(65_536)
+        text, feeds, lines = bytearray(), 0, None
+        while lines is None or feeds <= lines:
+            read = self.process.stdout.read(65_536)
+            text += read
+            feeds += read.count(b"\n")
+            if lines is None and feeds:
+                lines = int(text.partition(b"\n")[0].split()[5])
         seconds = time.perf_counter() - start
         if not text.startswith(b"search %d version " % self.searches):
             sys.exit("%s: not the answer of search %d: %r" % (build.called(), self.searches, text[:200]))
-        return text, seconds
+        return bytes(text), seconds
 
     def put_all(self, documents, search):
         """Puts documents, publishes and searches. All of it can be sent before anything is read, since the session writes nothing

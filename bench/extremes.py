@@ -6,8 +6,8 @@ Prints six tables:
   seconds and the most resident memory of a run and of a session;
 - the column and the spans of one long line, for patterns that are hard for them. A search of less than a second is measured five times,
   and its least time is shown;
-- searches in one line of 5 MB of words: a rare one, whose line is written and only counted, and the spans of all words, with 0 and 4
-  readers;
+- searches in one line of 5 MB of words, with 0 and 4 readers: a rare one, whose line is written and only counted, and the spans of all
+  words; until the answer is read, and how long the program says that it worked;
 - searches by name among 200,000 documents of one line, 400 of them in a folder: the names that begin with the folder's, and all names
   that have it in them;
 - the resident memory of sessions that replace documents of 500 bytes, with a publish after each round: the least and the most of what
@@ -81,12 +81,20 @@ def long_line():
     words = b"".join(b"value_%d = next(%x, y); " % (number, number * 7_919) for number in range(200_000))
     line = words[: LONG_LINE // 2] + b" sched_setaffinity " + words[LONG_LINE // 2 : LONG_LINE]
     searches = ("search sched_setaffinity", "find -c -- sched_setaffinity", "find --spans -- [a-z]+")
-    command.head(["readers", *("`%s` ms" % search for search in searches)], "One line of %.1f MB" % (len(line) / 1e6))
+    columns = ("`%s`, read; worked, ms" % search for search in searches)
+    command.head(["readers", *columns], "One line of %.1f MB" % (len(line) / 1e6))
     for readers in (0, 4):
-        session = client.Session("--readers", str(readers), "--max-body", str(1 << 26), "--max-line", str(1 << 26))
+        session = client.Session("--times", "--readers", str(readers), "--max-body", str(1 << 26), "--max-line", str(1 << 26))
         session.put_all({b"long": line + b"\n"}, b"search zzqqxxyy\n")
-        command.row(readers, *("%.1f" % (1000 * quickest(session, search.encode() + b"\n")) for search in searches))
+        command.row(readers, *("%.1f; %.1f" % read_and_worked(session, search) for search in searches))
         session.end()
+
+
+def read_and_worked(session, search):
+    """The milliseconds until an answer is read, and those in which the program worked for it, the least of five each."""
+    answers = [session.ask(search.encode() + b"\n") for _ in range(5)]
+    worked = [int(text.partition(b" worked ")[2].split()[0]) for text, _ in answers]
+    return 1000 * min(seconds for _, seconds in answers), min(worked) / 1000
 
 
 def names():
