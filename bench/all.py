@@ -8,7 +8,6 @@ has all of it, as a page to be added to results/.
 
 The small programs are built first, side by side, since nothing is measured yet. One that is not built then is built by its script,
 which says why it can't be. If the variable SMALL_PROGRAMS names a folder, they are built there, and one that is there already is taken.
-readings.py does not run here, since it takes longest: its program is proved for twenty minutes and measures one crate by itself.
 
 With --only, only the scripts of these names run. Nothing else should run meanwhile: if the load average of the last minute is over
 1.0, nothing is measured, unless --anyway is given.
@@ -63,6 +62,7 @@ def runs_over(small, large, more, headers):
         ("stack", []),
         ("levels", []),
         ("refused", [*trees, headers]),
+        ("readings", [small]),
     ]
 
 
@@ -91,6 +91,7 @@ SECTIONS = {
     "limits": "Line by line or compiled",
     "lists": "Posting lists",
     "trigrams": "Trigrams and queries",
+    "readings": "Readings",
     "preparing": "What preparing takes",
     "stack": "Stack",
     "levels": "Stack for a level",
