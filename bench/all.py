@@ -3,8 +3,9 @@
 Runs the scripts of this folder one after the other: over the source trees SMALL, LARGE and MORE, and over a folder of headers
 (/usr/include). What a script prints goes into a file of its own in the folder RESULTS. RESULTS/machine.txt tells the date, the
 commit, the machine and the versions of the tools, and then what is printed after each script: how long it took, its status, how much of
-the processors' time was used meanwhile, and how much of it the host took. A script that fails does not stop the others. RESULTS/page.md
-has all of it, as a page to be added to results/.
+the processors' time was used meanwhile, how much of it the host took, and how fast the machine was then: how long a loop of Python took,
+and how many times as much as one process the processors did with one each. A script that fails does not stop the others.
+RESULTS/page.md has all of it, as a page to be added to results/.
 
 The small programs are built first, side by side, since nothing is measured yet. One that is not built then is built by its script,
 which says why it can't be. If the variable SMALL_PROGRAMS names a folder, they are built there, and one that is there already is taken.
@@ -19,10 +20,13 @@ import subprocess
 import sys
 import tempfile
 import time
+import timeit
 
 import build
 
 MOST_LOAD = 1.0
+LOOPS = 1_000_000
+TURNS = 10
 TOOLS = [["rt", "version"], ["rg", "--version"], ["grep", "--version"], ["dpkg-query", "-W", "codesearch"], [sys.executable, "--version"]]
 
 
@@ -151,6 +155,22 @@ def ticks():
     return sum(times), sum(times) - idle - stolen, stolen
 
 
+def loop(_):
+    total = 0
+    for number in range(LOOPS):
+        total += number
+
+
+def speed():
+    """How long a loop of Python takes, and how many times as much as one process the processors do with one each. Both are timed by
+    turns, since the host is not equally fast all the time."""
+    count = os.cpu_count()
+    with concurrent.futures.ProcessPoolExecutor(count) as pool:
+        turns = [[timeit.timeit(lambda: list(pool.map(loop, range(at_once))), number=1) for at_once in (1, count)] for _ in range(TURNS)]
+    alone, together = map(min, zip(*turns))
+    return "a loop of Python took %.0f ms, and %d at once did %.1f times the work of one" % (1000 * alone, count, count * alone / together)
+
+
 def build_small_programs(names, folder):
     """Builds these small programs, and has the scripts take them from the folder."""
     began = time.perf_counter()
@@ -218,7 +238,7 @@ def main():
             name = file_of(script, folders, runs)
             status, what = run(script, folders, os.path.join(given.results, name))
             worst = max(worst, abs(status))
-            line = "%d of %d, %s: %s" % (number, len(asked), name, what)
+            line = "%d of %d, %s: %s; %s" % (number, len(asked), name, what, speed())
             print(line, flush=True)
             told.write(line + "\n")
             told.flush()
