@@ -19,11 +19,13 @@ LOOPS = 1_000_000
 COPIED = 64 << 20
 
 FIRST_LOOKS = 40
+MOST_NAMED = 5
 
 _source = bytearray(COPIED)
 _target = bytearray(COPIED)
 _least = []
 _loops = []
+_measured = []
 _busy = []
 _waited = [0.0]
 
@@ -75,6 +77,7 @@ def _until_quiet(measure):
 
 def measured(what, measure):
     """The result of a measurement that was made while the machine was quiet, or of the last try."""
+    _measured.append(what)
     for _ in range(TRIES):
         result, is_quiet = _until_quiet(measure)
         if is_quiet:
@@ -97,10 +100,12 @@ def in_turns(what, compared, measure):
 
 
 def told():
-    """What to print after the measurements: the speed of the quiet machine, and what was measured on a busy one."""
+    """What to print after the measurements: the speed of the quiet machine, and how many were made on a busy one, by name if they
+    are few."""
     times = 1000 * _least[0], 1000 * statistics.median(_loops), COPIED / _least[1] / 1e9
     text = "the machine: a million additions in Python in %.0f ms at least and %.0f by the median, memory copied with %.1f GB/s at most" % times
-    if not _busy:
-        return text + "; it was quiet before and after each measurement"
+    text += "; it was busy at %d of %d measurements" % (len(_busy), len(_measured))
+    if not _busy or len(_busy) > MOST_NAMED:
+        return text
     # Without the folders that were made for this run.
-    return text + "; it was busy at " + ", ".join(re.sub(r" /\S+/files\b", "", what) for what in _busy)
+    return text + ": " + ", ".join(re.sub(r" /\S+/files\b", "", what) for what in _busy)

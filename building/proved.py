@@ -27,7 +27,7 @@ QUIET = 60
 def build(target, out):
     """Proves the crates, each after those that it uses, and several at once. The program goes to the file `target`."""
     crates, log = list(crates_of_program()), out / "prove.log"
-    say(f"proving {len(crates)} crates, and building the program; from scratch this took 27 minutes on four processors")
+    say(f"proving {len(crates)} crates, and building the program; from scratch this takes half an hour to over an hour on four processors")
     with tempfile.TemporaryDirectory(prefix=ROOM, dir=out) as folder:
         room = pathlib.Path(folder)
         copy_sources(crates, room)
