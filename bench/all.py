@@ -20,12 +20,11 @@ import subprocess
 import sys
 import tempfile
 import time
-import timeit
 
 import build
+import quiet
 
 MOST_LOAD = 1.0
-LOOPS = 1_000_000
 TURNS = 10
 TOOLS = [["rt", "version"], ["rg", "--version"], ["grep", "--version"], ["dpkg-query", "-W", "codesearch"], [sys.executable, "--version"]]
 
@@ -155,10 +154,11 @@ def ticks():
     return sum(times), sum(times) - idle - stolen, stolen
 
 
-def loop(_):
-    total = 0
-    for number in range(LOOPS):
-        total += number
+def spent(pool, at_once):
+    """How many seconds so many processes take for a loop each."""
+    start = time.perf_counter()
+    concurrent.futures.wait([pool.submit(quiet.loop) for _ in range(at_once)])
+    return time.perf_counter() - start
 
 
 def speed():
@@ -166,7 +166,7 @@ def speed():
     turns, since the host is not equally fast all the time."""
     count = os.cpu_count()
     with concurrent.futures.ProcessPoolExecutor(count) as pool:
-        turns = [[timeit.timeit(lambda: list(pool.map(loop, range(at_once))), number=1) for at_once in (1, count)] for _ in range(TURNS)]
+        turns = [[spent(pool, at_once) for at_once in (1, count)] for _ in range(TURNS)]
     alone, together = map(min, zip(*turns))
     return "a loop of Python took %.0f ms, and %d at once did %.1f times the work of one" % (1000 * alone, count, count * alone / together)
 

@@ -36,7 +36,8 @@ def _spent(work):
     return time.perf_counter() - start
 
 
-def _loop():
+def loop():
+    """Some work for one processor: additions."""
     total = 0
     for number in range(LOOPS):
         total += number
@@ -48,7 +49,7 @@ def _copy():
 
 def _look(times):
     """The least seconds of each, out of this many runs."""
-    return [min(_spent(work) for _ in range(times)) for work in (_loop, _copy)]
+    return [min(_spent(work) for _ in range(times)) for work in (loop, _copy)]
 
 
 def _is_quiet():
