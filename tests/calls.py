@@ -4,7 +4,7 @@
 They show what no contract says: that each public function does its work if memory is ample, over inputs of many kinds and sizes. Each
 file NAME.rt.txt of a folder AREA is a module AREA::NAME of one crate over copies of the program's crates.
 
-Usage: tests/calls.py [[--all-but] AREA..]   The last line counts: N passed, M failed.
+Usage: tests/calls.py [AREA..]   The last line counts: N passed, M failed.
 """
 
 import pathlib
@@ -20,20 +20,16 @@ from counted import Counted
 CALLS = TOP / "tests/calls"
 # The areas may use all crates of the program, and the standard library's threads and waiting.
 OWN, RIGHTS = "calls", "tests_may=Threads+Wait"
-# How long one test may take.
-SECONDS = 600
+# How long one test may take, also where other work has the processors.
+SECONDS = 3600
 
 
 def areas_of(words):
     areas = sorted(path.name for path in CALLS.iterdir() if path.is_dir())
-    is_rest = words[:1] == ["--all-but"]
-    named = words[1:] if is_rest else words
-    unknown = sorted(set(named) - set(areas))
+    unknown = sorted(set(words) - set(areas))
     if unknown:
         sys.exit(f"{script_name()}: there is no folder tests/calls/{unknown[0]}")
-    if is_rest:
-        return [area for area in areas if area not in named]
-    return named or areas
+    return words or areas
 
 
 def libraries():
