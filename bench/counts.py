@@ -1,7 +1,7 @@
 """What the repository is made of: python3 bench/counts.py
 
 Prints the lines of each crate: of code, of contracts (what begins with `requires`, `ensures` or `ghost`, up to its last brace), of specs, of
-proofs, and its must-fail edits; then the words of each page. Empty lines and comments count. It needs no program.
+proofs, its must-fail edits, and those that `./test --long` tries; then the words of each page. Empty lines and comments count. It needs no program.
 """
 import pathlib
 import re
@@ -27,16 +27,17 @@ def contract_lines(lines):
 
 
 def row_of(crate):
-    """Lines of code, of contracts, of specs, of proofs, and edits."""
+    """Lines of code, of contracts, of specs, of proofs, and edits that each `./test` tries and that it tries with --long."""
     source = lines_of(crate / "src", "*.rt")
     contracts = contract_lines(source)
     others = [len(lines_of(crate / part, "*.antt")) for part in ("specs", "proofs")]
-    return [len(source) - contracts, contracts, *others, len(list(crate.glob("must-fail/*.edit")))]
+    edits = [len(list(folder.glob("*.edit"))) for folder in (crate / "must-fail", TOP / "tests/wrong_bodies" / crate.name)]
+    return [len(source) - contracts, contracts, *others, *edits]
 
 
 def main():
     command.words(__doc__, 0, 0)
-    columns = ["code", "contracts", "specs", "proofs", "edits"]
+    columns = ["code", "contracts", "specs", "proofs", "edits", "with --long"]
     command.head(["crate", *columns], "Lines of each crate")
     rows = {crate.name: row_of(crate) for crate in sorted((TOP / "crates").iterdir()) if crate.is_dir()}
     for name, row in rows.items():
