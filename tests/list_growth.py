@@ -62,6 +62,9 @@ PAIRS = [
     Pair("like apart", "like", "set numbers", "set", 16_000, 1),
 ]
 
+# How long one run may take, also where other work has the processors.
+SECONDS = 1800
+
 # Operations, and how many bytes may be in use at once for each number of 4N: a set has a quarter more room than bytes, and eleven bytes.
 # Each of the sets of twenty numbers has a slot, a list and its room.
 BYTES_EACH = {"set": 1.3, "scores": 120}
@@ -71,7 +74,7 @@ COUNTS = [("instructions", 50_000), ("requests for memory", 50), ("bytes request
 
 
 def run(command, env=None):
-    done = subprocess.run(command, env=env, capture_output=True, text=True, timeout=300, check=False)
+    done = subprocess.run(command, env=env, capture_output=True, text=True, timeout=SECONDS, check=False)
     if done.returncode != 0 or not re.fullmatch(r"\d+\n", done.stdout):
         sys.exit(f"tests/list_growth.py: {command[-2:]} ends with status {done.returncode}, {done.stdout!r}, {done.stderr[-300:]!r}")
     return done.stderr
