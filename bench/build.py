@@ -1,7 +1,7 @@
 """What is measured: the program, and small programs over the crates of the repository, which this builds.
 
-A small program is the file programs/NAME.rt.txt. `rt` proves and builds it over copies of the crates that it uses, in a folder of
-its own, in a few minutes. Crates that are already proved (`./tsearch --prove`) are copied with what `rt` keeps of them.
+A small program is the file programs/NAME.rt.txt. `rt ci` proves and builds it over copies of the crates that it uses, in a folder of
+its own, in a few minutes. It takes over crates that it has already proved on this machine (`./tsearch --prove`, `./test`).
 """
 import os
 import shutil
@@ -18,6 +18,9 @@ PROGRAM = os.environ.get("TSEARCH") or os.path.join(PROVED, "tsearch")
 MADE = os.environ.get("SMALL_PROGRAMS")
 # A text that only a program that is compiled with checks has.
 MARK = b"compiled with checks, and not proved"
+
+# What rt reads of a crate to prove it.
+PARTS_OF_CRATE = ("src", "specs", "proofs")
 
 # The small programs: the crates that each uses itself, and the files of programs/ that it is made of, if they are more than its own.
 USED = {
@@ -96,45 +99,47 @@ def source_of(name):
 
 
 def write_repository(folder, name, root):
-    """Makes a folder a repository of a small program and of copies of a checkout's crates, and returns the program's crate."""
+    """Makes a folder a repository of a small program and of copies of a checkout's crates."""
     lines = lines_of_crates(root)
     crates = with_those_below(USED[name], lines)
-    for crate in crates:
-        shutil.copytree(os.path.join(root, "crates", crate), os.path.join(folder, "crates", crate))
+    for part in (os.path.join("crates", crate, part) for crate in crates for part in PARTS_OF_CRATE):
+        if os.path.isdir(os.path.join(root, part)):
+            shutil.copytree(os.path.join(root, part), os.path.join(folder, part))
     with open(os.path.join(folder, "crates.txt"), "w") as file:
         file.writelines(lines[crate] + "\n" for crate in crates)
         file.write("meter: %s\n" % " ".join(USED[name]))
     # The handles that the crates are allowed: readings.rt.txt starts threads and waits.
     shutil.copy(os.path.join(root, "HANDLES"), folder)
-    own = os.path.join(folder, "crates", "meter")
-    os.makedirs(os.path.join(own, "src"))
-    with open(os.path.join(own, "src", "main.rt"), "w") as file:
+    own = os.path.join(folder, "crates", "meter", "src")
+    os.makedirs(own)
+    with open(os.path.join(own, "main.rt"), "w") as file:
         file.write(source_of(name))
-    subprocess.run(["git", "init", "-q", folder], check=True)
-    return own
+    # rt takes a folder for a repository by this one.
+    os.mkdir(os.path.join(folder, ".git"))
 
 
 def build(name, folder, root=TOP):
     """Builds a small program over the crates of a checkout in a folder, and returns its path. One that all.py has built is taken."""
-    made = os.path.join(MADE, name, "crates", "meter", "out", "meter") if MADE else ""
-    if root == TOP and os.access(made, os.X_OK):
-        return made
+    if root == TOP and MADE and os.access(program_in(os.path.join(MADE, name)), os.X_OK):
+        return program_in(os.path.join(MADE, name))
     if not shutil.which("rt"):
         sys.exit(f"{called()}: the command rt of the Rattle toolchain, which builds the program, is not on the PATH")
-    own = write_repository(folder, name, root)
-    built = subprocess.run(["rt", "run"], cwd=own, capture_output=True, text=True)
+    write_repository(folder, name, root)
+    built = subprocess.run(["rt", "ci"], cwd=folder, capture_output=True, text=True)
     if built.returncode != 0:
         sys.exit(built.stdout + built.stderr)
-    return os.path.join(own, "out", "meter")
+    return program_in(folder)
+
+
+def program_in(folder):
+    """The program that rt makes in the folder of a small program: as LLVM makes it."""
+    return os.path.join(folder, "crates", "meter", "out", "meter")
 
 
 def build_both(name, folder, root=TOP):
     """Builds a small program as LLVM makes it, and as Rattle's own compiler does, and returns the paths of the two."""
     built = build(name, folder, root)
-    copy = built + ".llvm"
-    shutil.copy(built, copy)
-    subprocess.run(["rt", "run", "--backend", "rattle"], cwd=os.path.dirname(os.path.dirname(built)), capture_output=True, check=True)
-    return copy, built
+    return built, built + ".by-rattle"
 
 
 def build_each(name, folder, roots):
