@@ -1,10 +1,13 @@
 #!/usr/bin/env python3
 """Runs the tests of clients/python on the built program, several modules at once.
 
-They need the Debian packages python3-aiohttp, python3-selenium, chromium and chromium-driver for the page, python3-watchdog for hints
-when files change, and python3-distributed for clusters; without one of them the tests of that part are left out, and named. Of the
+They need the Debian packages python3-aiohttp, python3-selenium, chromium and chromium-driver for the page, and python3-distributed for
+clusters; without one of them the tests of that part are left out, and named. Of the
 Python of the variable PYTHON, python3 on the PATH and /usr/bin/python3, which has Debian's packages, the one with the most of these
 libraries runs them.
+
+What fails is run again by itself once all others have ended. It stays failed, but what passes then is named: it hangs on time, or on
+what runs beside it, which is a defect of the test or of what it tests.
 
 Usage: tests/clients.py [--compiled] [MODULE..]   --compiled tests with the program that is compiled with checks. The last line
 counts: N passed, M failed.
@@ -22,11 +25,12 @@ from counted import Counted
 
 TESTS = TOP / "clients/python/tests"
 # The longest first, so that no processor waits for it.
-MODULES = ["test_links", "test_access", "test_host", "test_shared", "test_visitors", "test_operators", "test_browser", "test_cluster", "test_aio", "test_session", "test_web", "test_warm", "test_warm_server", "test_tgrep", "test_folder", "test_git", "test_ignored", "test_paths", "test_readme", "test_review", "test_core"]
-LIBRARIES = ["aiohttp", "selenium", "watchdog", "distributed"]
+MODULES = ["test_nothing_runs", "test_links", "test_shared", "test_cluster", "test_operators", "test_visitors", "test_access", "test_session", "test_git", "test_browser", "test_aio", "test_networks", "test_not_seen", "test_host", "test_apart", "test_web", "test_warm", "test_warm_server", "test_tgrep", "test_folder", "test_ignored", "test_paths", "test_readme", "test_review", "test_package", "test_hints", "test_core", "test_feeding", "test_bounds", "test_views", "test_comparisons"]
+LIBRARIES = ["aiohttp", "selenium", "distributed"]
 LEAST_VERSION = (3, 11)
-SECONDS = 400
+SECONDS = 900
 COUNTS = re.compile(r"(\d+) passed, (\d+) failed")
+FAILED = re.compile(r"^FAILED (\w+\.\w+\.\w+)", re.MULTILINE)
 
 
 def libraries_of(python):
@@ -49,7 +53,7 @@ def find_python():
 
 
 def run_module(python, program, module):
-    """What a module's tests write, and their counts."""
+    """What the tests of a module write, and their counts. It may be the name of a single test too."""
     environment = {**os.environ, "TSEARCH": str(program)}
     environment.pop("PYTHONPATH", None)
     command = [python, "-B", "counting.py", module]
@@ -60,11 +64,12 @@ def run_module(python, program, module):
         )  # fmt: skip
     except subprocess.TimeoutExpired as late:
         return f"{(late.stdout or b'').decode(errors='replace')}{module} has not ended in {SECONDS} seconds\n", (0, 1)
-    *rows, last = done.stdout.splitlines() or [""]
-    counts = COUNTS.fullmatch(last)
-    if not counts:
-        return done.stdout + f"{module} has ended with status {done.returncode} and no counts\n", (0, 1)
-    return "".join(row + "\n" for row in rows), (int(counts[1]), int(counts[2]))
+    rows = done.stdout.splitlines()
+    # a library may write of what it has left open behind the counts
+    counts = next((found for row in reversed(rows) if (found := COUNTS.fullmatch(row))), None)
+    if not counts or done.returncode not in (0, 1):
+        return done.stdout + f"{module} has ended with status {done.returncode}{'' if counts else ' and no counts'}\n", (0, 1)
+    return "".join(row + "\n" for row in rows if row != counts[0]), (int(counts[1]), int(counts[2]))
 
 
 def main():
@@ -81,11 +86,16 @@ def main():
     if python is None:
         print("there is no Python of version 3.11 or later, so the tests of clients/python are left out")
         counted.end()
+    failed = []
     with concurrent.futures.ThreadPoolExecutor(os.cpu_count()) as pool:
-        for text, (passed, failed) in pool.map(lambda module: run_module(python, program, module), modules):
+        for module, (text, (passed, count)) in zip(modules, pool.map(lambda module: run_module(python, program, module), modules)):
             sys.stdout.write(text)
             counted.passed += passed
-            counted.failed += failed
+            counted.failed += count
+            failed += FAILED.findall(text) or ([module] if count else [])
+    for test in sorted(set(failed)):
+        _, (_, again) = run_module(python, program, test)
+        print(f"{test} was run again by itself: {'it failed again' if again else 'it passed, so it hangs on time or on what runs beside it'}")
     counted.end()
 
 

@@ -15,6 +15,8 @@ import zipfile
 HERE = pathlib.Path(__file__).resolve().parent
 PACKAGE = "tsearch"
 BUILT = HERE.parent.parent / "out/current/tsearch"
+# What the folder is called in which a program is, and what `--version` says of it, as `./tsearch --version` does.
+KINDS = {"proved": "proved", "compiled": "compiled with checks"}
 SUFFIXES = {".py", ".typed", ".html", ".css", ".js", ".svg"}
 RUNNABLE = 0o100755
 PLAIN = 0o100644
@@ -93,6 +95,7 @@ def build_wheel(wheel_directory, config_settings=None, metadata_directory=None):
             wheel.add(str(path.relative_to(HERE)), path.read_bytes())
     if BUILT.exists():
         wheel.add(f"{PACKAGE}/built/tsearch", BUILT.read_bytes(), RUNNABLE)
+        wheel.add(f"{PACKAGE}/built/kind", KINDS.get(BUILT.resolve().parent.name, "not known to be proved").encode() + b"\n")
     else:
         print("tsearch: no program is built (./tsearch --path builds one), so the package brings none along", file=sys.stderr)
     add_pages(wheel)

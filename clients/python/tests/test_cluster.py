@@ -17,6 +17,7 @@ import sys
 import tempfile
 import unittest
 import unittest.mock
+import warnings
 import zlib
 
 from helpers import PACKAGE, SECONDS, Model, found_in, shown, stop, stopped, until
@@ -245,6 +246,22 @@ class Clusters(unittest.IsolatedAsyncioTestCase):
                 self.assertEqual(((await cluster.find("x")).count, (await cluster.find("y")).version), (7, 2))
             finally:
                 os.kill(worker, signal.SIGCONT)
+
+    async def test_too_few_workers(self) -> None:
+        """It is said soon how many are missing, once, and to whoever waits; and once they are there all goes on."""
+        from tsearch import cluster as clusters
+
+        await self.cluster.close()
+        few = "there are too few workers, 5, and 3 are missing: a shard needs one of its own"
+        with unittest.mock.patch.multiple(clusters, _TO_PLACE=6.0, _TO_SAY=2.0), warnings.catch_warnings(record=True) as said:
+            warnings.simplefilter("always")
+            async with asyncio.timeout(2 * SECONDS), clusters.Cluster(self.client, SHARDS + 4) as cluster:
+                for number in range(50):
+                    await cluster.put(f"f{number}", "x" * 1_000)
+                with self.assertRaises(clusters.ShardLost) as raised:
+                    await cluster.publish()
+                self.assertIn("is lost: there are too few workers, 5, and ", str(raised.exception))
+            self.assertEqual([str(one.message) for one in said if one.category is RuntimeWarning], [f"{few}; it is waited for"])
 
     async def test_what_is_published_while_a_shard_is_lost(self) -> None:
         from tsearch.cluster import Cluster, ShardLost

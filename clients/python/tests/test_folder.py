@@ -308,8 +308,7 @@ class Folders(unittest.TestCase):
     def test_hints(self) -> None:
         told = []
         with hints([os.fsencode(self.top)], lambda: told.append(1)) as has_hints:
-            if not has_hints:
-                self.skipTest("the library watchdog is missing")
+            self.assertEqual((bool(has_hints), has_hints.fault), (True, ""))
             self.write("a/b", b"x\n")
             until(lambda: told)
 

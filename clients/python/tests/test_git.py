@@ -3,15 +3,17 @@
 from __future__ import annotations
 
 import asyncio
+import contextlib
 import os
 import pathlib
+import random
 import shutil
 import tempfile
 import time
 import unittest
 import unittest.mock
 
-from helpers import TOP, found_in  # puts the package on the path of modules
+from helpers import TOP, found_in, until  # puts the package on the path of modules
 from made import Made
 
 import tsearch
@@ -349,6 +351,225 @@ class Revisions(unittest.TestCase):
             made.commit("main", {b"src/main.c": b"x" * 20_000})
             self.assertEqual(revisions.refresh().left_out, [(b"main:src/main.c", "line too long")])
             self.assertEqual(session.find("int main").hits(), [])
+
+    def spoil(self, made: Made, path: str, how: str) -> pathlib.Path:
+        """Has git unable to read a file of main: its object is gone, or other bytes are in its middle. The file of the object."""
+        number = made.git("rev-parse", f"main:{path}")
+        file = made.path / "objects" / number[:2] / number[2:]
+        file.chmod(0o644)
+        data = file.read_bytes()
+        (self.top / number).write_bytes(data)
+        if how == "missing":
+            file.unlink()
+        else:
+            middle = len(data) // 2 if how == "late" else 2
+            file.write_bytes(data[:middle] + bytes(byte ^ 0x55 for byte in data[middle : middle + 40]) + data[middle + 40 :])
+        return file
+
+    def test_objects_that_git_cannot_read(self) -> None:
+        """Each file is left out by its own name, and the others are found; and once it is mended, so is it."""
+        source = random.Random(1)
+        bodies = {b"f%02d" % number: b"int f%d; " % number + source.randbytes(3_000 + number).hex().encode() + b"\n" for number in range(40)}
+        made = Made(self.top / "bad.git")
+        made.commit("main", bodies)
+        made.commit("topic", {b"f07": b"int other;\n"}, start="main")
+        spoilt = {"f03": "missing", "f07": "late", "f08": "late", "f20": "early", "f39": "late"}
+        files = [self.spoil(made, path, how) for path, how in spoilt.items()]
+        reasons = {"missing": "missing in the repository", "early": "missing in the repository", "late": "corrupt in the repository"}
+        revisions = git.Revisions(self.session, made.path, ["main", "topic"])
+        refreshed = revisions.refresh()
+        wanted = {b"%s:%s" % (branch, path.encode()): reasons[how] for branch in (b"main", b"topic") for path, how in spoilt.items()}
+        del wanted[b"topic:f07"]
+        self.assertEqual((dict(refreshed.left_out), revisions.left_out), (wanted, wanted))
+        documents = named(made, "main", "topic")
+        whole = {name: body for name, body in documents.items() if name not in wanted}
+        self.expect(whole)
+        # nobody is told again, and nothing is read again before its time
+        made.commit("main", {b"new": b"int new;\n"})
+        self.assertEqual(revisions.refresh().left_out, [])
+        documents[b"main:new"] = whole[b"main:new"] = b"int new;\n"
+        self.expect(whole)
+        for file in files[:3]:
+            file.write_bytes((self.top / (file.parent.name + file.name)).read_bytes())
+        with unittest.mock.patch.object(git, "TICK", 0):
+            revisions._objects._next_read = time.monotonic() + 1_000
+            until(lambda: revisions._objects._seen or not revisions.refresh())
+            self.expect(whole)
+            revisions._objects._next_read = 0.0
+            self.assertEqual(revisions.refresh().left_out, [])
+        mended = {name for name in wanted if name[-3:] in (b"f03", b"f07", b"f08")}
+        self.expect({name: body for name, body in documents.items() if name in whole or name in mended})
+        self.assertEqual(revisions.left_out, {name: reason for name, reason in wanted.items() if name not in mended})
+
+    def test_more_objects_than_are_tried(self) -> None:
+        """Those behind are left out too: each that is corrupt costs a command."""
+        from tsearch import bodies
+
+        made = Made(self.top / "bad.git")
+        source = random.Random(1)
+        made.commit("main", {b"f%d" % number: source.randbytes(3_000).hex().encode() + b"\n" for number in range(9)})
+        for number in range(2, 7):
+            self.spoil(made, f"f{number}", "late")
+        with unittest.mock.patch.object(bodies, "_MOST_CORRUPT", 3):
+            revisions = git.Revisions(self.session, made.path, ["main"])
+            self.assertEqual(revisions.refresh().put, 2)
+        self.assertEqual(list(revisions.left_out.values()), ["corrupt in the repository"] * 3 + ["not read behind too many objects that cannot be read"] * 4)
+
+    def test_a_folder_that_is_missing(self) -> None:
+        """It is left out by its name, in each branch that has it, and all else is found: also what is pushed then; and once it is there again, so
+        is what is in it."""
+        made = Made(self.top / "bad.git")
+        files = {b"%s/%d.c" % (folder, number): b"int %s%d;\n" % (folder.replace(b"/", b"_"), number) for folder in (b"a", b"b", b"b/c", b"z") for number in range(3)}
+        made.commit("main", files)
+        made.commit("topic", {b"a/0.c": b"int other;\n"}, start="main")
+        made.commit("apart", {b"b/c/2.c": b"int apart;\n"}, start="main")
+        file = self.spoil(made, "b", "missing")
+        revisions = git.Revisions(self.session, made.path, ["main", "topic", "apart"])
+        self.assertEqual(dict(revisions.refresh().left_out), {b"main:b/": "missing in the repository", b"topic:b/": "missing in the repository"})
+        documents = named(made, "main", "topic", "apart")
+
+        def whole() -> dict[bytes, bytes]:
+            return {name: body for name, body in documents.items() if not name.startswith((b"main:b/", b"topic:b/"))}
+
+        self.expect(whole())
+        made.commit("main", {b"a/1.c": None, b"new.c": b"int new;\n", b"z/0.c": b"int changed;\n"})
+        self.assertEqual(revisions.refresh().left_out, [])
+        documents = named(made, "main", "topic", "apart")
+        self.expect(whole())
+        file.write_bytes((self.top / (file.parent.name + file.name)).read_bytes())
+        with unittest.mock.patch.object(git, "TICK", 0):
+            revisions._objects._next_read = time.monotonic() + 1_000
+            until(lambda: revisions._objects._seen or not revisions.refresh())
+            self.expect(whole())
+            revisions._objects._next_read = 0.0
+            revisions.refresh()
+        self.expect(documents)
+        self.assertEqual(revisions.left_out, {})
+
+    def test_folders_that_go_and_are_corrupt(self) -> None:
+        """A push in which such a folder is another one, or none; and a commit that has nothing but such a one."""
+        made = Made(self.top / "bad.git")
+        made.commit("main", {b"a/%d" % number: b"int a%d;\n" % number for number in range(5)} | {b"b/%d" % number: b"int b%d;\n" % number for number in range(5)})
+        self.spoil(made, "a", "late")
+        self.spoil(made, "b", "missing")
+        revisions = git.Revisions(self.session, made.path, ["main"])
+        revisions.refresh()
+        self.assertEqual(revisions.left_out, {b"main:a/": "corrupt in the repository", b"main:b/": "missing in the repository"})
+        self.assertEqual(self.session.status().documents, 0)
+        files = {b"a/1": b"int again;\n", b"c": b"int c;\n"}
+        made.commit("main", files, start=None)
+        revisions.refresh()
+        self.expect({b"main:" + path: body for path, body in files.items()})
+        self.assertEqual(revisions.left_out, {})
+        made.commit("topic", {b"d": b"int d;\n"})
+        self.spoil(made, "", "missing")
+        revisions = git.Revisions(self.session, made.path, ["topic", "main"], prefix="again:")
+        revisions.refresh()
+        self.assertEqual((revisions.left_out, self.session.find("int d").count), ({b"main:": "its top folder cannot be read"}, 1))
+
+    def test_a_branch_whose_commit_is_missing(self) -> None:
+        """No pattern of names fails for it, and it is not there."""
+        self.made.commit("main", FILES)
+        gone = self.made.commit("b2", {b"a": b"int a;\n"}, start="main")
+        self.made.commit("b1", {b"b": b"int b;\n"}, start="main")
+        (self.made.path / "objects" / gone[:2] / gone[2:]).unlink()
+        revisions = git.Revisions(self.session, self.made.path, ["b*", "main"])
+        revisions.refresh()
+        self.assertEqual(list(revisions.commits), ["b1", "main"])
+        self.expect(named(self.made, "b1", "main"))
+
+    def test_no_more_names_are_kept_than_asked_for(self) -> None:
+        """They are passed as git gives them."""
+        commit = self.made.commit("main", FILES)
+        self.made.git("update-ref", "--stdin", stdin=b"".join(b"create refs/%s/n%04d %s\n" % (kind, at, commit.encode()) for kind in (b"heads", b"tags") for at in range(2_000)))
+        store = git.Store(self.made.path)
+        self.assertEqual(list(store.commits(["n*", "tags/n*", "main"], 3)), ["n0000", "n0001", "n0002", "tags/n0000", "tags/n0001", "tags/n0002", "main"])
+        self.assertEqual(len(store.commits(["*"])), 2_001)
+        asked = []
+        with unittest.mock.patch.object(store, "_commits_of", lambda wanted: asked.append(len(wanted)) or [commit] * len(wanted)):
+            store.commits(["n*"], 3)
+        self.assertEqual(asked, [0, 1])
+
+    def test_git_waits_for_an_object_that_never_comes(self) -> None:
+        """As on a disk that is stuck. That one is left out by its name, and the others are found."""
+        self.made.commit("main", {b"%02d" % number: b"int f%d;\n" % number for number in range(10)})
+        file = self.spoil(self.made, "07", "missing")
+        os.mkfifo(file)
+        sizes = git.Store.sizes
+        revisions = git.Revisions(self.session, self.made.path, ["main"])
+        revisions._objects.store.seconds = 20.0
+
+        def known(store: git.Store, objects: list[bytes]) -> list[tuple[bytes, int | None]]:
+            """git would wait for this too."""
+            stuck = (file.parent.name + file.name).encode()
+            return sizes(store, [one for one in objects if one != stuck]) + [(one, 8) for one in objects if one == stuck]
+
+        with unittest.mock.patch.object(git.Store, "sizes", known):
+            self.assertEqual(revisions.refresh().left_out, [(b"main:07", "not given by git in time")])
+        self.expect({name: body for name, body in named(self.made, "main").items() if name != b"main:07"})
+        # where all of its time goes by, the repository has a fault, and no longer once it answers
+        revisions = git.Revisions(self.session, self.made.path, ["main"], prefix="again:")
+        revisions._objects.store.seconds = 1.0
+        with self.assertRaisesRegex(git.NoRepository, "git does not answer in 1 seconds"):
+            revisions.refresh()
+        file.unlink()
+        file.write_bytes((self.top / (file.parent.name + file.name)).read_bytes())
+        revisions._objects.store.seconds = 60.0
+        self.assertEqual(revisions.refresh().put, 10)
+
+    def test_git_neither_reads_nor_ends(self) -> None:
+        """As one that the system does not let end: nobody waits for it, though not all was written that it is asked for."""
+        from tsearch import bodies, reading_git
+
+        class Stuck(reading_git.subprocess.Popen):
+            def kill(self) -> None:
+                pass
+
+        self.addCleanup(lambda: [process.send_signal(9) or process.wait() for process in begun])
+        begun: list[Stuck] = []
+
+        @contextlib.contextmanager
+        def begin(*_: bytes):
+            begun.append(Stuck(["sleep", "1000"], stdin=-1, stdout=-1))
+            try:
+                yield begun[-1]
+            finally:
+                reading_git._end(begun[-1])
+
+        wanted = [b"%040d" % number for number in range(100_000)]
+        with unittest.mock.patch.object(reading_git, "_TO_END", 0.1):
+            found = list(bodies.bodies_of(begin, wanted, 0.5))
+        self.assertEqual((len(begun), {process.poll() for process in begun}), (1, {None}))
+        self.assertEqual(found, [(number, bodies.BEHIND) for number in wanted])
+
+    def test_a_pipe_in_place_of_a_branch(self) -> None:
+        """git waits for it. Another repository does not: what is pushed to that is found meanwhile."""
+        slow, quick = Made(self.top / "slow.git"), Made(self.top / "quick.git")
+        for made in slow, quick:
+            made.commit("main", FILES)
+        pipe = slow.path / "refs/heads/pipe"
+        os.mkfifo(pipe)
+
+        async def run() -> None:
+            async with aio.Session.started() as session:
+                waiting, other = (aio.Revisions(session, made.path, ["main", "p*"], prefix=prefix) for made, prefix in ((slow, "1:"), (quick, "2:")))
+                waits = asyncio.create_task(waiting.refresh())
+                await other.refresh()
+                quick.commit("main", {b"new": b"int pushed;\n"})
+                await other.refresh()
+                self.assertEqual([hit.name for hit in await session.find("pushed")], [b"2:main:new"])
+                self.assertFalse(waits.done())
+                waiting.objects.store.seconds = 1.0
+                again = aio.Revisions(session, slow.path, ["p*"], prefix="3:")
+                again.objects.store.seconds = 1.0
+                with self.assertRaisesRegex(git.NoRepository, "git does not answer in 1 seconds"):
+                    await again.refresh()
+                self.assertFalse(waits.done())
+                pipe.open("w").close()
+                await waits
+                self.assertEqual((await session.find("", names_only=True, under="1:")).count, len(FILES))
+
+        asyncio.run(run())
 
     def test_a_body_over_the_limit(self) -> None:
         self.made.commit("main", {b"large": b"a line of it\n" * 5_200_000, b"small": b"small\n"})

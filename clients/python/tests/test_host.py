@@ -70,7 +70,7 @@ class Repositories(Host):
         until(lambda: len(server.hits("int main")) == 2)
 
     def test_commits_that_are_served(self) -> None:
-        """Those of the revisions, those before, and those that were served; no others, though they are in the repository."""
+        """Those of the revisions, and those before; no others, though they are in the repository."""
         made = self.made
         before = self.first
         now = made.commit("main", {b"src/new.c": b"int new;\n"})
@@ -87,13 +87,14 @@ class Repositories(Host):
         self.assertEqual(review("", "main")[0]["refused"], " is not a commit that is served")
         self.assertEqual(review("main^{/new}", "main")[0]["refused"], "main^{/new} is not a commit that is served")
         self.assertEqual(review("main^{/}", "main")[0]["refused"], "main^{/} is not a commit that is served")
-        # history that is written anew: also of a commit that nobody has looked at
+        # history that is written anew
         later = made.commit("main", {b"src/later.c": b"int later;\n"})
         until(lambda: server.hits("int later"))
+        self.assertEqual(self.view(server, now, "src/new.c")[1]["lines"], ["int new;"])
         made.commit("main", {b"only": b"int only;\n"}, start=None)
         until(lambda: server.hits("int only"))
-        self.assertEqual(self.view(server, now, "src/new.c")[1]["lines"], ["int new;"])
-        self.assertEqual(self.view(server, later, "src/later.c")[1]["lines"], ["int later;"])
+        for commit, path in (now, "src/new.c"), (later, "src/later.c"):
+            self.assertEqual(self.view(server, commit, path), (410, {"refused": "this commit is not, or no longer, served"}))
         self.assertEqual(server.find("x", revision="hidden"), [{"refused": "there is no revision hidden"}])
 
     def test_filters(self) -> None:
@@ -201,16 +202,75 @@ class Settings(Host):
         until(lambda: server.find("x", revision="topic") == [{"refused": "there is no revision topic"}])
         until(lambda: [row[0] for row in server.hits("int other|int main")] == ["other"])
         # a file with a fault changes nothing, and is told
-        for text, reason in {
-            "[[repository": "Expected", '[[repository]]\nname = "x"\n': "a path is needed", '[[repository]]\npath = "none"\n': "is not a folder",
-            f'[[repository]]\npath = "{self.top}"\nrevisions = ["main"]\n': "is not a git repository", second * 2: "two repositories are called other",
-            second + 'link = "javascript:x"\n': "a link is an address", "[limits]\n": "tables [[repository]] alone",
-            '[[repository]]\npath = "made.git"\nname = "a:b"\n': "no colon", '[[repository]]\npath = "made.git"\ncolour = 1\n': "the keys are",
-        }.items():  # fmt: skip
+        for text, reason in {"[[repository": "Expected", "[colour]\n": "tables [[repository]] alone", second + "[visitors]\nipv4 = 33\n": "ipv4 of [visitors] is a number from 8 to 32"}.items():
             change(text)
             until(lambda reason=reason: reason in server.log)
             self.assertEqual([row[0] for row in server.hits("int other|int main")], ["other"], text)
+        # an entry with a fault is left out and named, and the others are served
+        third = '[[repository]]\npath = "made.git"\nname = "third"\n'
+        for text, name, reason in (
+            ('[[repository]]\nname = "x"\n', "x", "a path is needed"), ('[[repository]]\npath = "far/none.git"\n', "none", "is not a folder"),
+            (f'[[repository]]\npath = "{self.top}"\nname = "top"\nrevisions = ["main"]\n', "top", "is not a git repository"),
+            (second, "other-2", "two repositories are called other"), ('[[repository]]\npath = "made.git"\nlink = "javascript:x"\n', "made", "a link is an address"),
+            ('[[repository]]\npath = "made.git"\nname = "a:b"\n', "made", "no colon"), ('[[repository]]\npath = "made.git"\ncolour = 1\n', "made", "the keys are"),
+            ("[[repository]]\npath = 1\n", "repository 2", "path, name and link are texts"),
+        ):  # fmt: skip
+            with self.subTest(text=text):
+                change(second + text + third)
+                until(lambda reason=reason: reason in server.log)
+                until(lambda: [row[0] for row in server.hits("int other|int main")] == ["other", "third"])
+                rows = server.find("int other|int main")
+                self.assertEqual(rows[-1]["missing"], [name])
+                self.assertEqual([row for row in rows if row.get("repository") == name], [{"repository": name, "fault": "it cannot be served: the log says why", "again": False}])
+                told = server.get("/api/status")[1].decode()
+                self.assertNotIn(str(self.top), told)
+                self.assertEqual([one["loaded"] for one in json.loads(told)["repositories"]], [True, False, True])
+                self.assertEqual(json.loads(server.get("/health")[1]), {"ok": False, "not_served": 1, "repositories": [name]})
+                self.assertEqual(server.log.count(f"{name} is left out: "), server.log.count(f"{name} is left out: {file}, repository 2: "))
+        # none at all is said, too
+        change("")
+        until(lambda: f"{file} names no repository, so nothing is served" in server.log)
+        self.assertEqual(server.find("x")[-1]["lines"], 0)
         self.assertEqual(len(server.programs()), 1)
+
+    def test_an_entry_that_cannot_be_served_at_the_start(self) -> None:
+        """It is said once, and served as soon as it can be, without a signal; one that goes is named, and the others go on."""
+        other = Made(self.top / "other.git")
+        other.commit("main", {b"a.c": b"int other;\n"})
+        away = self.top / "away.git"
+        other.path.rename(away)
+        file = self.top / "tsearch.toml"
+        file.write_text('[[repository]]\npath = "other.git"\n[[repository]]\npath = "made.git"\n')
+        server = self.enterContext(serving_in(self.top, "--settings", str(file), count=2, loaded=1))
+        found = lambda: [row[0] for row in server.hits("int other|int main")]  # noqa: E731
+        self.assertEqual(found(), ["made"])
+        self.assertEqual(server.log.count("other is left out: "), 1)
+        away.rename(other.path)
+        until(lambda: found() == ["other", "made"])
+        until(lambda: server.get("/health")[0] == 200)
+        self.assertEqual(server.log.count("left out"), 1)
+        # it goes while it is served
+        other.path.rename(away)
+        until(lambda: server.get("/health")[0] == 503)
+        self.assertEqual(json.loads(server.get("/health")[1])["repositories"], ["other"])
+        status = server.get("/api/status")[1].decode()
+        self.assertNotIn("there is no commit yet", status + str(server.find("int other")))
+        self.made.commit("main", {b"new.c": b"int main2;\n"})
+        until(lambda: server.hits("int main2"))
+        # what it has is kept, also when the settings are read again, as for a disk that is away for a while
+        os.kill(server.pid, signal.SIGHUP)
+        until(lambda: f"other goes on as it was: {file}, repository 1: " in server.log)
+        self.assertEqual(found(), ["other", "made", "made"])
+        away.rename(other.path)
+        until(lambda: server.get("/health")[0] == 200)
+        self.assertEqual(found(), ["other", "made", "made"])
+        # and piece by piece
+        other.git("pack-refs", "--all")
+        (other.path / "packed-refs").unlink()
+        until(lambda: server.find("x", repository="other") == [{"refused": "there is no commit yet"}])
+        shutil.rmtree(other.path)
+        until(lambda: server.get("/health")[0] == 503)
+        self.assertNotIn("there is no commit yet", str(server.find("x", repository="other")) + str(server.find("x")))
 
     def test_health(self) -> None:
         server = self.serve(str(self.made.path))

@@ -4,6 +4,7 @@ import os
 import shutil
 import signal
 import unittest
+import urllib.parse
 
 from browsing import reason_to_skip
 from helpers import SLOW
@@ -45,15 +46,25 @@ class Links(Hosted):
         ActionChains(self.browser).key_down(Keys.SHIFT).click(numbers[3]).key_up(Keys.SHIFT).perform()
         self.assertEqual((self.targets(), self.words()["lines"]), (["2", "3", "4"], "2-4"))
         link = self.browser.current_url
-        # a push by force, and the commit is of no branch any more
-        self.made.commit("main", {b"src/util.c": b"int rewritten;\n"}, start=None)
+        pushed = self.made.commit("main", {b"src/util.c": b"int pushed;\n"})
         try:
-            self.wait(lambda: self.server.hits("rewritten"))
+            self.wait(lambda: self.server.hits("pushed"))
             self.browser.get("about:blank")
             self.browser.get(link)
             self.wait(lambda: self.is_open() and self.done() is not None)
             self.assertEqual((self.lines(), self.targets()), (before, ["2", "3", "4"]))
             self.assertEqual(self.shown(), [])
+            # a push by force, and that commit is of no branch any more
+            self.browser.get("about:blank")
+            self.open(f"/?of=made&file=src/util.c&commit={pushed}")
+            self.wait(self.is_open)
+            self.assertTrue(self.one("#file-host").is_displayed())
+            self.made.commit("main", {b"src/util.c": b"int rewritten;\n"}, start=None)
+            self.wait(lambda: self.server.hits("rewritten"))
+            self.browser.refresh()
+            self.wait(lambda: self.all("#file-lines .note"))
+            self.assertIn("this commit is not, or no longer, served", self.one("#file-lines").text)
+            self.assertFalse(self.one("#file-host").is_displayed())
         finally:
             self.made.git("update-ref", "refs/heads/main", self.first)
             self.made.files["main"] = dict(FILES)
@@ -140,12 +151,56 @@ class Links(Hosted):
         """It is named beside the answer of the other. After the program has ended all are asked again."""
         self.one("#pattern").send_keys(f"int few|{SLOW}")
         self.wait(lambda: self.all("#results .missing") and [row[0] for row in self.shown()] == ["few.txt"])
-        self.assertEqual(self.one("#results .missing").text, "made gives no answer: too slow after 2000 ms; try a narrower one.")
+        # the other does not wait for it, and it has its own time then
+        said = "return [...document.querySelectorAll('#results .missing')].map(one => one.textContent)"
+        self.wait(lambda: self.browser.execute_script(said) == ["made gives no answer: too slow after 2000 ms; try a narrower one."])
         self.assertIn("No answer from made.", self.one("#status").text)
         self.one("#pattern").clear()
         os.kill(self.server.programs()[0], signal.SIGKILL)
         self.one("#pattern").send_keys("int call|int few")
         self.wait(lambda: [row[0] for row in self.shown()] == ["src/util.c", "few.txt"])
+
+    def test_an_address_that_somebody_made_up(self) -> None:
+        """It leads to no page of the host that the server does not know."""
+        commit = self.made.git("rev-parse", "main")
+        for file, at in (
+            ("x", "../../../evil/phish%3F"), ("x", "%23"), ("src/util.c", "HEAD"), ("src/util.c", commit + "/../../evil"), ("../../../evil/phish", commit),
+            ("src/util.c/../../../../../evil", commit), ("src/util.c%3F", commit), ("x", ""),
+        ):  # fmt: skip
+            self.browser.get("about:blank")
+            self.open(f"/?of=made&file={file}&commit={at}&lines=1")
+            self.wait(lambda: self.all("#file-lines .note"))
+            host = self.one("#file-host")
+            self.assertEqual((host.is_displayed(), host.get_attribute("href")), (False, None), (file, at))
+        # what it leads to is the file that is shown, in whatever way it is written
+        for of, file, lines, line in ("made", "src%252Futil.c", "2-3", 2), ("made", "src/util.c", "/../../evil", 1), ("other", "few.txt", "1#x", 1):
+            self.browser.get("about:blank")
+            self.open(f"/?of={of}&file={file}&lines={urllib.parse.quote(lines)}")
+            self.wait(self.is_open)
+            path, tip = urllib.parse.unquote(urllib.parse.unquote(file)), self.made.git("rev-parse", "main") if of == "made" else self.other.git("rev-parse", "main")
+            self.assertEqual(self.one("#file-host").get_attribute("href"), f"https://git.example/{of}/blob/{tip}/{path}#L{line}")
+
+    def test_one_that_is_late(self) -> None:
+        """It is asked by itself, and shown in its place."""
+        self.browser.execute_script("""
+            const ask = window.fetch;
+            window.fetch = async (path, options) => {
+              if (!String(path).startsWith("api/find") || String(path).includes("repository=")) return ask(path, options);
+              const rows = (await (await ask(path, options)).text()).trim().split("\\n").map((row) => JSON.parse(row));
+              const total = rows.pop(), own = rows.filter((row) => row.repository !== "made");
+              const lines = own.reduce((sum, row) => sum + (row.hits ? row.hits.length : 0), 0);
+              const answer = [{ repository: "made", fault: "too slow", alone: true }, ...own, { ...total, lines, missing: ["made"] }];
+              return new Response(answer.map((row) => JSON.stringify(row) + "\\n").join(""));
+            };
+        """)
+        self.addCleanup(self.browser.refresh)
+        self.one("#pattern").send_keys("int call|int few")
+        self.wait(lambda: [row[0] for row in self.shown()] == ["src/util.c", "few.txt"])
+        self.wait(lambda: self.one("#status").text.startswith("2 lines in 2 files"))
+        self.assertEqual(self.all("#results .missing"), [])
+        self.assertNotIn("No answer", self.one("#status").text)
+        self.all("#results .row")[0].click()
+        self.wait(self.is_open)
 
     def test_letters_that_turn_others_around(self) -> None:
         self.type("turning")

@@ -1,5 +1,6 @@
 """The page for operators: what it shows is run, with other paths and ports."""
 
+import dataclasses
 import importlib.util
 import json
 import os
@@ -8,15 +9,19 @@ import re
 import shlex
 import shutil
 import signal
+import socket
 import subprocess
 import sys
 import tempfile
+import tomllib
 import unittest
 
 from browsing import ARGUMENTS, CHROMIUM, DRIVER, reason_to_skip
 from helpers import PACKAGE, SECONDS, TOP, until
 from made import Made
 from serving import free_port, serving_in
+
+import tsearch
 
 PAGE = TOP / "docs/HOST.md"
 NAME = "search.example.org"
@@ -97,6 +102,30 @@ class Operators(unittest.TestCase):
         rows = [json.loads(line) for line in (self.top / "requests.jsonl").read_text().splitlines()]
         self.assertLessEqual({"time", "address", "method", "path", "status", "bytes", "seconds"}, rows[0].keys())
 
+    @unittest.skipUnless(shutil.which("curl"), "the command curl is missing")
+    def test_a_push_does_not_wait_for_the_hook(self) -> None:
+        """Though the page takes the connection and never answers."""
+        silent = self.enterContext(socket.create_server(("127.0.0.1", 0)))
+        self.shell(blocks("sh")[1], silent.getsockname()[1])
+        self.made.git("clone", "-q", str(self.made.path), str(self.top / "clone"))
+        clone = Made(self.top / "clone", is_bare=False)
+        clone.commit("main", {b"pushed.c": b"int pushed;\n"})
+        push = subprocess.Popen(["git", "-C", str(clone.path), "push", "-q", "origin", "main"], stdout=subprocess.PIPE, stderr=subprocess.STDOUT)
+        silent.settimeout(SECONDS)
+        asking = self.enterContext(silent.accept()[0])
+        asked = b""
+        while b"\r\n\r\n" not in asked:
+            asked += asking.recv(1 << 16)
+        self.assertTrue(asked.startswith(b"POST /api/look "), asked)
+        try:
+            self.assertEqual(push.communicate(timeout=SECONDS / 3)[0], b"")
+        finally:
+            push.kill()
+            push.wait()
+        self.assertEqual(push.returncode, 0)
+        # and nothing is left of the hook, though nobody has answered
+        self.assertEqual(asking.recv(1), b"")
+
     @unittest.skipUnless(has_venv(), "/usr/bin/python3 or its venv is missing")
     def test_the_installation(self) -> None:
         """Without a network, and without the users of the machine."""
@@ -118,6 +147,8 @@ class Operators(unittest.TestCase):
         done = subprocess.run(["systemd-analyze", "verify", "--man=no", str(unit)], capture_output=True, timeout=SECONDS, check=False, text=True)
         faults = [line for line in done.stderr.splitlines() if str(unit) in line or "tsearch.service" in line]
         self.assertEqual(faults, [])
+        for setting in "LimitNOFILE", "MemoryMax", "TasksMax":
+            self.assertRegex(blocks("ini")[0], rf"(?m)^{setting}=\d+%?$")
 
     def certificate(self) -> None:
         subprocess.run(
@@ -247,6 +278,24 @@ class Options(unittest.TestCase):
 
 
 class Package(unittest.TestCase):
+    def test_the_numbers_of_visitors(self) -> None:
+        """Those that the page names are the usual ones, and each can be set."""
+        try:
+            from tsearch.web.turns import Networks, networks_of
+        except ImportError:
+            self.skipTest("the library aiohttp is missing")
+        told = tomllib.loads(next(block for block in blocks("toml") if "[visitors]" in block))
+        self.assertEqual(told["visitors"], dataclasses.asdict(Networks()))
+        self.assertEqual(networks_of({"visitors": {"ipv4": 24}}, Networks(ipv6=48), "x"), Networks(ipv4=24, ipv6=48))
+        for row, said in (
+            ({"ipv4": 33}, "x: ipv4 of [visitors] is a number from 8 to 32"), ({"ipv6": "64"}, "x: ipv6 of [visitors] is a number from 16 to 128"),
+            ({"at_work": True}, "x: at_work of [visitors] is a number from 1 to 512"),
+            ({"more": 1}, "x: the keys of [visitors] are ipv4, ipv6, at_work, waiting, all_waiting, connections"), (1, "x: the keys of [visitors] are ipv4, ipv6, at_work, waiting, all_waiting, connections"),
+        ):  # fmt: skip
+            with self.assertRaises(tsearch.Error) as raised:
+                networks_of({"visitors": row}, Networks(), "x")
+            self.assertEqual(str(raised.exception), said)
+
     def test_options_of_the_page(self) -> None:
         """Each that the page names is there."""
         done = subprocess.run([sys.executable, "-B", "-m", "tsearch.web", "--help"], cwd=PACKAGE, capture_output=True, text=True, timeout=SECONDS, check=False)

@@ -256,7 +256,7 @@ class Reviews(unittest.TestCase):
         with Review(self.session, made.path, "a", "b") as review:
             found = found_by(review, "one|two|2|four")
             self.assertEqual(found["wide", "wide"], [(" ", 1, 1, b"one"), ("-", 2, None, b"two"), ("+", None, 2, b"2"), ("+", None, 4, b"four")])
-            self.assertEqual(found["long", "long"], [("-", 6_001, None, b"one"), ("+", None, 6_001, b"one")])
+            self.assertEqual(found["long", "long"], [(" ", 6_001, 6_001, b"one")])
             self.assertEqual(found["link", "link"], [("+", None, 1, b"one")])
             self.assertEqual(review.left_out, {b"-:binary": "binary", b"+:binary": "binary", b"-:link": "symbolic link"})
 

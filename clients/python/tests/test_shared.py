@@ -24,6 +24,7 @@ from test_host import NO_REASON, REASON, Host
 import tsearch
 from tsearch import aio
 from tsearch.answers import Answer, Published, View
+from tsearch.feeding import Feeding
 from tsearch.merging import parted
 from tsearch.query import Query
 
@@ -430,6 +431,7 @@ class Sharing(unittest.IsolatedAsyncioTestCase):
 
     async def searched(self, texts: dict[str, str], most: int, milliseconds: int = 60_000, **options: object) -> tuple[dict[str, object], dict[str, object]]:
         """What a search for x answers in folders with a text each: how many lines, or why there are none; and how many there are in all."""
+        from tsearch.bounds import Bounds
         from tsearch.web.repositories import Files, Filter, Served, Shared
         from tsearch.web.searching import Search
 
@@ -438,7 +440,7 @@ class Sharing(unittest.IsolatedAsyncioTestCase):
         for name, text in texts.items():
             (self.top / name).mkdir(exist_ok=True)
             (self.top / name / "text").write_text(text)
-            chosen.append((Files(Served(name, os.fsencode(self.top / name)), shared), Filter()))
+            chosen.append((Files(Served(name, os.fsencode(self.top / name), bounds=Bounds()), shared), Filter()))
             await chosen[-1][0]._look(self.fail)
         query = Query.of(**{"pattern": "x", "context": 0, "limit": 101, "spans": True, **options})
         search = lambda: Search(shared, chosen, query, "", milliseconds, most)  # noqa: E731
@@ -589,7 +591,7 @@ class Sharing(unittest.IsolatedAsyncioTestCase):
                 await asyncio.sleep(0.01)
 
     async def test_reviews_in_use(self) -> None:
-        """None of them ends, and then the last four stay."""
+        """None of them ends. Then they stay, until there is to be room for others: the one goes in which nobody has searched for the longest time."""
         from tsearch.web.repositories import Objects, Served
 
         made = Made(self.top / "made.git")
@@ -604,11 +606,12 @@ class Sharing(unittest.IsolatedAsyncioTestCase):
             await asyncio.sleep(0.2)
             self.assertIs(again, reviews[0])
             self.assertEqual([(await review.find("int")).count("+") for review in reviews], [1] * 7)
-            await self.expect(1 + 7 * 2)
-        await self.expect(1 + 4 * 2)
+        await self.expect(1 + 8 * 2)
         with self.assertRaises(tsearch.Error):
             async with objects.review("0" * 40, commits[0]):
                 pass
+        await self.expect(1 + 7 * 2)
+        self.assertEqual(self.shared.reviews.count, 7)
         async with objects.review(*commits[:2]) as review:
             self.assertEqual((await review.find("int")).count("-"), 1)
 
@@ -711,7 +714,7 @@ class Told:
     life = 1
 
     def __init__(self) -> None:
-        self.feeding = asyncio.Lock()
+        self.feeding = Feeding()
         self.documents: dict[bytes, bytes] = {}
 
     async def put(self, name: bytes, body: bytes) -> None:

@@ -119,12 +119,14 @@ class Visitors(Host):
 
             async def find(self, query) -> None:
                 lanes.append(query.lane)
+                raise repositories.Gone
 
         files = object.__new__(repositories.Files)
         files.shared, files._start = Noted(), b"1::"
-        asyncio.run(files.admits(repositories.Filter(("x",)), b"x", b"visitor"))
-        asyncio.run(files.now(b"x", b"visitor"))
-        self.assertEqual(lanes, [b"visitor"] * 2)
+        for asked in files.admits(repositories.Filter(("x",)), b"x", b"visitor"), files.now(b"x", b"visitor"), files._whole(b"1::x", b"visitor"):
+            with self.assertRaises(repositories.Gone):
+                asyncio.run(asked)
+        self.assertEqual(lanes, [b"visitor"] * 3)
 
     def test_reviews_of_one_visitor_at_a_time(self) -> None:
         """They wait with the others."""
@@ -154,7 +156,7 @@ class Visitors(Host):
             (Asked("192.0.2.1"), "192.0.2.1"), (Asked("192.0.2.1", "198.51.100.1"), "192.0.2.1"), (Asked("127.0.0.1"), "127.0.0.1"),
             (Asked("127.0.0.1", "198.51.100.1"), "198.51.100.1"), (Asked("127.0.0.1", "1.1.1.1, 198.51.100.1, 10.1.2.3"), "198.51.100.1"),
             (Asked("127.0.0.1", "1.1.1.1", "198.51.100.2"), "198.51.100.2"), (Asked("127.0.0.1", "nonsense"), "127.0.0.1"),
-            (Asked("2001:db8::1:2:3:4"), "2001:db8::/64"), (Asked("127.0.0.1", "2001:db8::9"), "2001:db8::/64"),
+            (Asked("2001:db8::1:2:3:4"), "2001:db8::/56"), (Asked("127.0.0.1", "2001:db8:0:ff::9"), "2001:db8::/56"),
             (Asked("::ffff:192.0.2.1"), "192.0.2.1"), (Asked("::ffff:127.0.0.1", "::ffff:198.51.100.1"), "198.51.100.1"),
         ):  # fmt: skip
             self.assertEqual(visitors.address_of(asked), wanted)
@@ -208,19 +210,19 @@ class Turns(unittest.IsolatedAsyncioTestCase):
         many = [asyncio.create_task(application._outcomes_of({"address": "198.51.100.1"}, asked, slow)) for _ in range(18)]
         await asyncio.sleep(0.01)
         async with asyncio.timeout(SECONDS):
-            for address in "198.51.100.7", "2001:db8::/64", "", "a" * 65:
+            for address in "192.0.2.7", "2001:db8::/56", "", "a" * 65:
                 await application._outcomes_of({"address": address}, asked, quick)
-        # each has a lane of its own in the program, too
-        self.assertEqual(lanes, [b"198.51.100.7", b"2001:db8::/64", b"-", b"a" * 64])
+        # each wider network has a lane of its own in the program, too
+        self.assertEqual(lanes, [b"192.0.2.0/24", b"2001:db8::/48", b"-", b"a" * 64])
         self.assertEqual(sum(one.done() for one in many), 0)
         goes_on.set()
         await asyncio.gather(*many)
-        self.assertEqual((application._visitors._turns, +application._visitors._counts), ({}, {}))
+        self.assertTrue(application.visitors.turns.is_idle)
 
     async def test_nothing_is_kept_of_who_has_gone(self) -> None:
         from tsearch.web.visitors import TooMany, Visitors
 
-        visitors = Visitors(frozenset())
+        visitors = Visitors(frozenset(), at_work=100)
 
         async def visit(address: str) -> bool:
             try:
@@ -237,7 +239,7 @@ class Turns(unittest.IsolatedAsyncioTestCase):
         for one in waiting:
             one.cancel()
         await asyncio.wait(waiting)
-        self.assertEqual((visitors._turns, dict(visitors._counts)), ({}, {}))
+        self.assertTrue(visitors.turns.is_idle)
 
 
 @unittest.skipUnless(NO_REASON, REASON)
@@ -270,6 +272,21 @@ class Logs(Host):
         os.kill(server.pid, signal.SIGHUP)
         until(lambda: "the log stays as it was: " in server.log)
         self.assertEqual(len(server.hits("int main")), 1)
+
+    def test_the_bytes_of_answers(self) -> None:
+        """The log has them, whatever is answered."""
+        log = self.top / "requests"
+        server = self.serve("--log", str(log), "--proxy", "127.0.0.1", str(self.made.path))
+        paths = ["/", "/page.js", "/icon.svg", "/api/find?q=int", "/api/count?q=int", "/api/status", "/api/file?name=src/main.c", "/health", "/metrics", "/none",
+                 "/api/find?q=(", "/api/file", f"/api/review?before={self.first}&after=HEAD&q=int"]  # fmt: skip
+        lengths = [len(server.get(path, {"X-Forwarded-For": "198.51.100.1"})[1]) for path in paths]
+        self.assertNotIn(0, lengths)
+
+        def rows() -> list[dict]:
+            return [row for row in map(json.loads, log.read_text().splitlines()) if row["address"] == "198.51.100.1"]
+
+        until(lambda: len(rows()) == len(paths))
+        self.assertEqual([(row["path"], row["bytes"]) for row in rows()], [(path.partition("?")[0], length) for path, length in zip(paths, lengths)])
 
     def test_measurements(self) -> None:
         server = self.serve(str(self.made.path))

@@ -424,8 +424,8 @@ class Changes(unittest.TestCase):
             slow = "a.*b.*c.*d.*e.*f"
             until(lambda: server.find(slow, search_ms="99999", repository="two") == [{"refused": "too slow", "milliseconds": 1}])
             # it is named beside the answer of the other
-            fault = {"repository": "two", "fault": "too slow", "milliseconds": 1}
-            until(lambda: any(fault in rows and rows[-1].get("missing") == ["two"] for rows in [server.find(slow)]))
+            faults = [{"repository": "two", "fault": "too slow", "milliseconds": 1}, {"repository": "two", "fault": "too slow", "alone": True}]
+            until(lambda: any(any(fault in rows for fault in faults) and rows[-1].get("missing") == ["two"] for rows in [server.find(slow)]))
 
 
 if __name__ == "__main__":

@@ -6,6 +6,9 @@ for asyncio. `Folder` keeps the files of a folder in a session, `tsearch.git.Rev
 terminal, and `python3 -m tsearch.web` serves a page. README.md in this package's folder shows each.
 """
 
+# As in pyproject.toml.
+__version__ = "0.1.0"
+
 # A part is loaded once a name of it is used: the command tgrep starts in some milliseconds, and needs none of them for that.
 TYPE_CHECKING = False
 if TYPE_CHECKING:
@@ -94,3 +97,8 @@ def __getattr__(name: str) -> object:
             globals()[name] = found
             return found
     raise AttributeError(f"module {__name__!r} has no attribute {name!r}")
+
+
+def __dir__() -> list[str]:
+    """The public names, for completion: most are not loaded yet."""
+    return sorted({*__all__, *(name for name in globals() if name.startswith("__"))})

@@ -8,14 +8,17 @@ import contextlib
 import dataclasses
 import itertools
 import os
+import time
 from asyncio import subprocess
-from collections.abc import AsyncIterator, Awaitable, Callable, Iterator, Sequence
+from collections.abc import AsyncIterator, Awaitable, Callable, Iterator, Mapping, Sequence
 from typing import TYPE_CHECKING, Any, Unpack
 
 from .answers import Answer, Published, Status, joined
+from .bounds import Bounds
 from .core import Core, Sent, SentSearch, ended_by, ended_with, status_of, value_of
-from .errors import ChangeRefused, Ended, Error
-from .folder import BATCH, MOST_TOGETHER, Files, Progress, Refreshed, Source, Step
+from .errors import ChangeRefused, Ended, Error, SearchRefused
+from .feeding import LEAST, PIECE, Feeding, Turn
+from .folder import BATCH, MOST_TOGETHER, Files, Progress, Refreshed, Source, Step, steps_of_all
 from .git import Objects, Store
 from .names import to_bytes
 from .paths import check
@@ -32,8 +35,10 @@ __all__ = ["Change", "Changes", "Folder", "Review", "Revisions", "Search", "Sess
 
 _BLOCK = 1 << 18
 _MESSAGE = 4_096
-# In bytes: so much of files is read ahead, and then sent.
-_BATCH = 1 << 21
+# What calls a function in a thread, and waits for what it gives.
+InThread = Callable[..., Awaitable[Any]]
+# In bytes: so much of files is read ahead, and then sent; and so much at most of what is shown together, before others wait for it.
+_BATCH, _MOST_READ = 1 << 21, 1 << 24
 
 
 def _future_of(sent: Sent) -> asyncio.Future[Any]:
@@ -325,7 +330,7 @@ class Session(Changes):
         super().__init__(connection)
         self._start = start
         self._restarting = asyncio.Lock()
-        self.feeding = asyncio.Lock()
+        self.feeding = Feeding()
         self._is_closed = False
 
     @classmethod
@@ -508,7 +513,10 @@ class Kept:
 
     before_change: is awaited with the name of each document that is there and is about to be replaced or removed by itself.
     published: is called with each publish, at once.
+    in_parts: whether others may publish while a look sends what nobody asks for: free steps, and all of it until a look has come to its end.
     """
+
+    in_parts = False
 
     def __init__(
         self,
@@ -531,6 +539,10 @@ class Kept:
         self._refused: list[ChangeRefused] = []
         # how often the program was started that has what the source knows of
         self._life = 0
+        # the life in which a look has come to its end
+        self._shown = 0
+        # what reads the source in a thread
+        self.in_thread: InThread = asyncio.to_thread
         # not while a publish may have been carried out that `published` has not been told of
         self.settled = asyncio.Event()
         self.settled.set()
@@ -565,20 +577,32 @@ class Kept:
             if changes.life != self._life:
                 self._begin(changes.life)
                 look = self._source.steps
-            steps = look()
-            if not await self._has_more(steps) and not self._is_pending:
-                await self._session.status()  # it may have ended
-                return Refreshed(0, 0, self._source.take_news(), None)
-            # who else changes the session waits only from here on
-            async with self._session.feeding:
-                if self._is_pending:
-                    # of a look that has failed: a refusal of it is of no body that is sent now
-                    if isinstance(changes, Changes):
-                        await (await changes.mark())
-                    await self._take_refusals(changes)
-                put, removed = await self._send(changes, self._before_change, steps)
-                published = await self._publish(changes)
-            return Refreshed(put, removed, self._source.take_news(), published)
+            refreshed = await self._look_once(changes, look())
+            while self._source.has_more:
+                refreshed = _both(refreshed, await self._look_once(changes, self._source.steps()))
+            self._shown = self._life
+            return refreshed
+
+    async def _look_once(self, changes: Changes | ClusterChanges, steps: Iterator[Step]) -> Refreshed:
+        """Sends the steps of a look, and publishes them."""
+        is_hidden = self.in_parts and (self._is_pending or self._shown != self._life)
+        if not await self._has_more(steps) and not self._is_pending:
+            await self._session.status()  # it may have ended
+            return Refreshed(0, 0, self._source.take_news(), None)
+        # who else changes the session waits only from here on; what is shown already goes before what nobody asks for yet
+        async with Turn(self._session.feeding) as turn:
+            if self._is_pending:
+                await turn.take(not is_hidden)
+                # of a look that has failed: a refusal of it is of no body that is sent now
+                if isinstance(changes, Changes):
+                    await (await changes.mark())
+                await self._take_refusals(changes)
+            if not self.in_parts:
+                await turn.take(not is_hidden)
+            put, removed = await self._send(changes, self._before_change, steps, _Parts(turn, is_hidden) if self.in_parts else None)
+            await turn.take(not is_hidden)
+            published = await self._publish(changes)
+        return Refreshed(put, removed, self._source.take_news(), published)
 
     def _begin(self, life: int) -> None:
         """Begins with another program, which has nothing of it."""
@@ -586,6 +610,7 @@ class Kept:
         self._unsent.clear()
         self._refused.clear()
         self._life, self._is_pending = life, False
+        self._shown = 0
 
     async def _publish(self, changes: Changes | ClusterChanges) -> Published:
         self.settled.clear()
@@ -614,18 +639,19 @@ class Kept:
         """
         async with self._lock:
             steps = self._source.removals()
-            while self._life == self._session.life and (few := await asyncio.to_thread(_few, steps)):
+            while self._life == self._session.life and (few := await self.in_thread(_few, steps, self._source)):
                 await self._remove_some(few)
             if under and self._life == self._session.life:
                 await self._remove_some([Step(under, None, 0, 1, under=1)])
             self._begin(0)
 
     async def _remove_some(self, steps: list[Step]) -> None:
-        async with self._session.feeding:
+        async with Turn(self._session.feeding) as turn:
+            await turn.take()
             changes = _changes_of(self._session, [])
             for step in steps:
                 await _remove(changes, step)
-            await self._session.publish(tells=False)
+            await _publish_piece(self._session, turn)
 
     async def restart(self) -> Published | None:
         """Starts the program again if it has ended, and sends all documents. For a session with this source alone. None if the program
@@ -651,22 +677,47 @@ class Kept:
 
     async def _feed(self, changes: Changes) -> None:
         self._begin(changes.life)
-        await self._send(Changes(changes._connection, self._refused), None, self._source.steps())
+        await self._send(Changes(changes._connection, self._refused), None, steps_of_all(self._source))
         self._is_pending = True
 
     async def _has_more(self, steps: Iterator[Step]) -> bool:
         """Reads on in the source. Whether there are steps to be sent."""
-        await asyncio.to_thread(_take_some, steps, self._unsent)
+        await self.in_thread(_take_some, steps, self._unsent)
         return bool(self._unsent)
 
+    async def _go_on(self, steps: Iterator[Step], parts: _Parts | None) -> bool:
+        """Sees to the next step: with parts it is the turn of this source then, and was that of others if they may go between. Whether there is
+        one."""
+        if parts is None:
+            return bool(self._unsent) or await self._has_more(steps)
+        if not self._unsent and not parts.is_whole:
+            if parts.size > PIECE:
+                parts.size = 0
+                await parts.turn.take()
+                await _publish_piece(self._session, parts.turn)
+            parts.turn.leave()
+        if not self._unsent and not await self._has_more(steps):
+            return False
+        if not parts.is_whole and not self._unsent[0].free and not parts.is_hidden:
+            parts.is_whole = True
+            parts.turn.leave()
+            await self.in_thread(_take_some, steps, self._unsent, _MOST_READ)
+        await parts.turn.take(parts.is_whole)
+        parts.size += max(len(self._unsent[0].body or b""), LEAST)
+        return True
+
     async def _send(
-        self, changes: Changes | ClusterChanges, before_change: Callable[[bytes], Awaitable[object]] | None, steps: Iterator[Step]
+        self,
+        changes: Changes | ClusterChanges,
+        before_change: Callable[[bytes], Awaitable[object]] | None,
+        steps: Iterator[Step],
+        parts: _Parts | None = None,
     ) -> tuple[int, int]:
         put = removed = 0
         loaded: Awaitable[object] | None = None
-        while self._unsent or await self._has_more(steps):
+        while await self._go_on(steps, parts):
             step = self._unsent[0]
-            name, body, done, of, path, under, source = step
+            name, body, done, of, path, under, source, _ = step
             self._is_pending = True
             if done % BATCH == 0 and loaded:
                 # while the program has the next ones
@@ -719,6 +770,7 @@ class Folder(Kept):
     before_change, published: as for `Kept`.
     follows: whether symbolic links are followed.
     is_apart: whether the rules of the folders above it do not hold.
+    bounds: what is taken of the folder at most.
     """
 
     def __init__(
@@ -734,9 +786,10 @@ class Folder(Kept):
         follows: bool = False,
         is_apart: bool = False,
         loads: bool | None = None,
+        bounds: Bounds = Bounds(),
     ) -> None:
         can_load = isinstance(session, Session) and session.pid is not None
-        self._files = Files(root, prefix, git, follows, is_apart, can_load if loads is None else loads)
+        self._files = Files(root, prefix, git, follows, is_apart, can_load if loads is None else loads, bounds)
         super().__init__(session, self._files, progress, before_change, published)
 
     @property
@@ -758,12 +811,18 @@ class Folder(Kept):
 class Review:
     """The files of a patch in a session or a cluster, as `tsearch.review.Review` has them."""
 
-    def __init__(self, session: Session | Cluster, patch: Patch, prefix: bytes | None) -> None:
+    def __init__(
+        self, session: Session | Cluster, patch: Patch, prefix: bytes | None, most_lines: int | None = None, in_thread: InThread = asyncio.to_thread
+    ) -> None:
         self.patch = patch
+        self._most_lines = most_lines
+        self._in_thread = in_thread
+        self._filling = asyncio.Lock()
         self._session = session
         self._prefix = prefix_of_its_own() if prefix is None else prefix
         self._has_own = prefix is None
-        self._held: set[bytes] = set()
+        # the documents, with the bytes of each
+        self._held: dict[bytes, int] = {}
         # the last publish of its documents
         self.published: Published | None = None
         self._is_closed = False
@@ -772,69 +831,95 @@ class Review:
     async def open(
         cls,
         session: Session | Cluster,
-        path: str | bytes | os.PathLike[str] | os.PathLike[bytes],
+        path: str | bytes | os.PathLike[str] | os.PathLike[bytes] | Store,
         before: str,
         after: str,
         *,
         whole: bool = False,
         prefix: str | bytes | None = None,
+        bounds: Bounds = Bounds(),
+        most_lines: int | None = None,
+        in_thread: InThread = asyncio.to_thread,
     ) -> Review:
-        """Puts the files of a patch, and returns once they are found. The arguments are those of `tsearch.review.Review`."""
-        patch = await asyncio.to_thread(lambda: Patch(Store(path), before, after, whole))
-        review = cls(session, patch, None if prefix is None else to_bytes(prefix))
+        """Puts the files of a patch, and returns once they are found. The arguments are those of `tsearch.review.Review`.
+
+        most_lines: how many lines an answer may have; `SearchRefused` for one that has more.
+        in_thread: what calls a function in a thread.
+        """
+        patch = await in_thread(lambda: Patch(path if isinstance(path, Store) else Store(path), before, after, whole, bounds))
+        review = cls(session, patch, None if prefix is None else to_bytes(prefix), most_lines, in_thread)
         try:
             await review._fill()
         except BaseException:
+            patch.is_wanted = False
             with contextlib.suppress(Error):
                 await review.close()
             raise
         return review
 
     async def _fill(self) -> None:
-        """Puts the documents. Copies of revisions that the session has would have their place here."""
-        documents = self.patch.documents()
-        refused: list[ChangeRefused] = []
-        async with self._session.feeding:
+        """Puts the documents, and lets others go between: nobody searches in them yet. Copies of revisions that the session has would have their
+        place here."""
+        async with self._filling, Turn(self._session.feeding) as turn:
+            refused: list[ChangeRefused] = []
             changes = _changes_of(self._session, refused)
             if self.published and self.published.life == changes.life:
                 return  # another search has done it
-            while batch := await asyncio.to_thread(lambda: list(itertools.islice(documents, BATCH))):
+            documents, size = self.patch.documents(), 0
+            while batch := await self._in_thread(_some_of, documents):
+                await turn.take()
                 for name, body in batch:
-                    self._held.add(name)
+                    self._held[name] = len(body)
                     await changes.put(self._prefix + name, body)
+                    size += max(len(body), LEAST)
+                if size > PIECE:
+                    await _publish_piece(self._session, turn)
+                    size = 0
+                turn.leave()
+            await turn.take()
             published = await self._session.publish(tells=False)
             if published.life != changes.life:
                 raise Ended(None)  # that to which they were sent
             self.published = published
-        self._held -= refused_in(self.patch, self._prefix, refused)
+            for name in refused_in(self.patch, self._prefix, refused):
+                self._held.pop(name, None)
+            turn.leave()
+            # what a search in it would wait for
+            await self._in_thread(self.patch.compare)
 
     async def find(self, pattern: str | bytes, *, sees: Callable[[bytes], bool] | None = None, **options: Unpack[Options]) -> Found:
         """The lines with a match, as `tsearch.review.Review.find` gives them, with its errors."""
         asked = Query.of(pattern, **options)
         if asked.names or asked.not_names:
             await self._session.find_query(dataclasses.replace(check(asked.names, asked.not_names), lane=asked.lane))
-        answer = await self._session.find_query(query_in(self._prefix, asked))
+        query = dataclasses.replace(query_in(self._prefix, asked), limit=self._most_lines)
+        answer = await self._session.find_query(query)
         while self.published is None or answer.life != self.published.life:
             # the program was started again, without them
             await self._fill()
-            answer = await self._session.find_query(query_in(self._prefix, asked))
+            answer = await self._session.find_query(query)
         if self._is_closed:
             raise Error("the review is closed")
-        files = await asyncio.to_thread(lambda: list(self.patch.files(answer, self._prefix)))
+        if answer.more:
+            raise SearchRefused(f"over {self._most_lines:,} lines of the patch match")
+        files = await self._in_thread(lambda: list(self.patch.files(answer, self._prefix)))
         return Found(answer.version, *cut(wanted_by(asked, seen_by(sees, files)), asked.limit))
 
     async def close(self) -> None:
-        """Removes the documents. A second call does nothing. `find` raises `Error` from then on."""
-        self._is_closed = True
-        async with self._session.feeding:
-            held, self._held = self._held, set()
-            changes = _changes_of(self._session, [])
-            if held and self._has_own:
-                await changes.remove_under(self._prefix)
-            for name in () if self._has_own else held:
-                await changes.remove(self._prefix + name)
-            if held:
-                await self._session.publish(tells=False)
+        """Removes the documents, a few with each publish. A second call does nothing. `find` raises `Error` from then on."""
+        self._is_closed, self.patch.is_wanted = True, False
+        held, self._held = self._held, {}
+        pieces = list(_in_pieces(held))
+        changes = _changes_of(self._session, [])
+        for piece in pieces:
+            async with Turn(self._session.feeding) as turn:
+                await turn.take()
+                if len(pieces) == 1 and self._has_own:
+                    await changes.remove_under(self._prefix)
+                else:
+                    for name in piece:
+                        await changes.remove(self._prefix + name)
+                await _publish_piece(self._session, turn)
 
     async def __aenter__(self) -> Review:
         return self
@@ -855,9 +940,12 @@ class Revisions(Kept):
         prefix: str | bytes = b"",
         progress: Progress | None = None,
         published: Callable[[Published], object] | None = None,
+        bounds: Bounds = Bounds(),
+        in_parts: bool = False,
     ) -> None:
-        self._objects = Objects(Store(path), wanted, prefix, copies=isinstance(session, Session))
+        self._objects = Objects(Store(path), wanted, prefix, copies=isinstance(session, Session), bounds=bounds, stages=in_parts)
         super().__init__(session, self._objects, progress, None, published)
+        self.in_parts = in_parts
 
     @property
     def objects(self) -> Objects:
@@ -876,19 +964,77 @@ async def _remove(changes: Changes | ClusterChanges, step: Step) -> None:
     await (changes.remove_under(step.name) if step.under else changes.remove(step.name))
 
 
-def _few(steps: Iterator[Step]) -> list[Step]:
-    """The next steps, for some `MOST_TOGETHER` documents."""
+async def _publish_piece(session: Session | Cluster, turn: Turn) -> None:
+    """Publishes a part of what nobody asks for, and leaves the turn to others. In a session the searches that came meanwhile go before the next
+    part, for as long as this one took at most: so those who send much leave half of the time to those who search."""
+    began = time.monotonic()
+    await session.publish(tells=False)
+    turn.leave()
+    if isinstance(session, Session) and (waiting := session._connection.open_futures()):
+        await asyncio.wait(waiting, timeout=time.monotonic() - began)
+
+
+class _Parts:
+    """How far a source has come that lets others go between.
+
+    is_hidden: whether nobody asks for anything of it yet.
+    is_whole: whether what is sent has to be published together, from here on.
+    size: the bytes that were sent since the last publish.
+    """
+
+    def __init__(self, turn: Turn, is_hidden: bool) -> None:
+        self.turn = turn
+        self.is_hidden = is_hidden
+        self.is_whole = False
+        self.size = 0
+
+
+def _both(one: Refreshed, other: Refreshed) -> Refreshed:
+    """What two looks came to."""
+    published = one.published.before(other.published) if one.published and other.published else one.published or other.published
+    return Refreshed(one.put + other.put, one.removed + other.removed, [*one.left_out, *other.left_out], published)
+
+
+def _few(steps: Iterator[Step], source: Source) -> list[Step]:
+    """The next steps that remove documents of a source, for some `MOST_TOGETHER` of them, and some mebibytes."""
     few: list[Step] = []
-    while sum(step.under or 1 for step in few) < MOST_TOGETHER and (step := next(steps, None)):
+    before = source.totals[1]
+    # what a step removes is known to be gone once the next one is asked for
+    while sum(step.under or 1 for step in few) < MOST_TOGETHER and before - source.totals[1] < PIECE and (step := next(steps, None)):
         few.append(step)
     return few
 
 
-def _take_some(steps: Iterator[Step], unsent: collections.deque[Step]) -> None:
-    """Takes the next steps, of a few mebibytes at most."""
+def _in_pieces(held: Mapping[bytes, int]) -> Iterator[list[bytes]]:
+    """Documents, given with their bytes, so many at a time as one publish may remove: some mebibytes, and `MOST_TOGETHER`, at most."""
+    piece: list[bytes] = []
     size = 0
-    for step in itertools.islice(steps, BATCH):
+    for name, length in held.items():
+        if piece and (len(piece) == MOST_TOGETHER or size + length > PIECE):
+            yield piece
+            piece, size = [], 0
+        piece.append(name)
+        size += length
+    if piece:
+        yield piece
+
+
+def _some_of(documents: Iterator[tuple[bytes, bytes]]) -> list[tuple[bytes, bytes]]:
+    """The next documents, of a few mebibytes at most."""
+    some, size = [], 0
+    for name, body in itertools.islice(documents, BATCH):
+        some.append((name, body))
+        size += len(body)
+        if size > _BATCH:
+            break
+    return some
+
+
+def _take_some(steps: Iterator[Step], unsent: collections.deque[Step], most: int = _BATCH) -> None:
+    """Takes the next steps, of a few mebibytes at most; with another number, of so many bytes, however many they are."""
+    size = 0
+    for step in itertools.islice(steps, BATCH if most == _BATCH else None):
         unsent.append(step)
         size += len(step.body or b"")
-        if size > _BATCH:
+        if size > most:
             break

@@ -16,6 +16,7 @@ import itertools
 import math
 import pickle
 import time
+import warnings
 import weakref
 import zlib
 from collections.abc import Collection, Iterator, Sequence
@@ -28,6 +29,7 @@ from . import names
 from .answers import Answer, Published, Status, joined
 from .core import status_of
 from .errors import ChangeRefused, Ended, Error, PublishRefused
+from .feeding import Feeding
 from .merging import merged, split
 from .program import MOST_COMMANDS
 from .query import Options, Query
@@ -38,6 +40,8 @@ from .session import Change, Search, Session
 TO_CALL = 120.0
 _TO_MAKE = 10.0
 _TO_PLACE = 30.0
+# In seconds: after so long without a worker it is said how many are missing.
+_TO_SAY = 1.0
 # In seconds: so long no shard goes to a worker that has failed. The scheduler may not know yet that it has ended.
 _AVOIDED = 15.0
 # How often a call is sent, each time to a new actor, before those who wait for it are told; and the seconds before the second time,
@@ -62,6 +66,19 @@ class ShardLost(Error):
 
     def __str__(self) -> str:
         return f"shard {self.shard} is lost: {self.reason}"
+
+
+class TooFewWorkers(Error):
+    """There are fewer workers than shards: a shard needs one of its own. `missing` says how many more are needed, and `there` how many there
+    are."""
+
+    def __init__(self, missing: int, there: int) -> None:
+        super().__init__(missing, there)
+        self.missing = missing
+        self.there = there
+
+    def __str__(self) -> str:
+        return f"there are too few workers, {self.there}, and {self.missing} {'is' if self.missing == 1 else 'are'} missing: a shard needs one of its own"
 
 
 class _Put(NamedTuple):
@@ -213,6 +230,9 @@ class _Workers:
         self._client: Any = weakref.proxy(client)
         # each until when
         self._used: dict[str, float] = {}
+        # how many shards wait for one, and whether that was said
+        self._waiting = 0
+        self._is_said = False
 
     @classmethod
     def of(cls, client: Client) -> _Workers:
@@ -220,15 +240,27 @@ class _Workers:
         return cls._known.setdefault(client, cls(client))
 
     async def take(self) -> str:
-        """A worker that has no shard; all actors of a worker would share one thread."""
-        async with asyncio.timeout(_TO_PLACE):
+        """A worker that has no shard; all actors of a worker would share one thread. `TooFewWorkers` if none comes in time; that is said before,
+        once for all that wait, as a warning."""
+        end, say = time.monotonic() + _TO_PLACE, time.monotonic() + _TO_SAY
+        self._waiting += 1
+        try:
             while True:
                 known = (await self._client.scheduler.identity())["workers"]
                 for worker in known:
                     if self._used.get(worker, 0) < time.monotonic():
                         self._used[worker] = math.inf
+                        self._is_said = False
                         return str(worker)
+                now, few = time.monotonic(), TooFewWorkers(self._waiting, len(known))
+                if now > end:
+                    raise few
+                if now > say and not self._is_said:
+                    self._is_said = True
+                    warnings.warn(f"{few}; it is waited for", RuntimeWarning, stacklevel=2)
                 await asyncio.sleep(0.05)
+        finally:
+            self._waiting -= 1
 
     def give(self, worker: str | None, has_failed: bool = False) -> None:
         """The worker has no shard any more."""
@@ -376,6 +408,9 @@ class _Lane:
             # whatever it is, another actor is made: Dask says OSError for a worker that ends during a call, and ValueError after that
             except Exception as fault:
                 await self._lose(batch, fault)
+                if isinstance(fault, TooFewWorkers):
+                    outcomes = [self._lost] * len(batch)  # one was waited for, long enough
+                    break
                 await asyncio.sleep(_PAUSE * 2**tried)
                 continue
             self._lost = None
@@ -539,7 +574,7 @@ class Cluster(Changes):
         self._open = 0
         # what was refused before a publish that has failed
         self._untold: list[ChangeRefused] = []
-        self.feeding = asyncio.Lock()
+        self.feeding = Feeding()
         super().__init__([_Lane(number, client, call_seconds, options) for number in range(shards)])
 
     @property

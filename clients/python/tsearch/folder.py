@@ -14,8 +14,9 @@ from typing import NamedTuple, Protocol, Unpack
 
 from . import names
 from .answers import Answer, Published
+from .bounds import Bounds
 from .errors import ChangeRefused, Ended
-from .listing import File, Lister, Listing, Stamp
+from .listing import OF_GIT, File, Lister, Listing, Stamp
 from .program import MOST_BODY, MOST_NAME
 from .query import Options
 from .session import Changes, Session
@@ -40,7 +41,8 @@ MOST_TOGETHER = 64
 class Step(NamedTuple):
     """A document to put, or to remove if there is no body; for how many documents steps have come before, and for how many at most. With a
     path the program is to load the document from there. With `under` so many documents are to be removed at once, which are all those whose
-    names begin with this one; or, with a `source` too, to be copied at once from those whose names begin with that."""
+    names begin with this one; or, with a `source` too, to be copied at once from those whose names begin with that. One that is `free` is of what
+    nobody knows of yet: a publish may show it before the others."""
 
     name: bytes
     body: bytes | None
@@ -49,6 +51,7 @@ class Step(NamedTuple):
     path: bytes | None = None
     under: int = 0
     source: bytes | None = None
+    free: bool = False
 
 
 class LeftOut(NamedTuple):
@@ -76,6 +79,8 @@ class Source(Protocol):
     steps."""
 
     left_out: dict[bytes, str]
+    # whether the next look has more to give at once
+    has_more: bool
 
     @property
     def totals(self) -> tuple[int, int]:
@@ -115,7 +120,10 @@ class Files:
         follows: bool = False,
         is_apart: bool = False,
         loads: bool = False,
+        bounds: Bounds = Bounds(),
     ) -> None:
+        self.bounds = bounds
+        self.has_more = False
         self.root = os.path.abspath(os.fsencode(root))
         self.prefix = names.to_bytes(prefix)
         self._lister = Lister(self.root, git is not False, follows, is_apart)
@@ -134,6 +142,19 @@ class Files:
         # of files that had changed so lately that their stamps may not tell the next change: a digest of what was read
         self._recent: dict[bytes, bytes] = {}
         self._news: list[LeftOut] = []
+
+    def hide_git(self) -> None:
+        """Leaves out git's own folders from now on, whatever they are called: each look says anew which are."""
+        self._lister.hides_git = True
+
+    def is_hidden(self, name: bytes) -> bool:
+        """Whether a path leads into a folder that is left out so, as it is now."""
+        return self._lister.is_hidden(name)
+
+    @property
+    def is_of_git(self) -> bool:
+        """Whether the last look has found that all of it is such a folder."""
+        return self.left_out.get(self.root) == OF_GIT
 
     def forget(self) -> None:
         """A new program has nothing of the folder."""
@@ -168,8 +189,14 @@ class Files:
     def _can_be_loaded(self, name: bytes, file: File, began: int) -> bool:
         """Whether the program can take the bytes of a file as they are, and the next change will show in its stamp."""
         is_old = name not in self._recent and max(file.stamp.modified, file.stamp.changed) <= began - TICK
-        is_short = file.stamp.size <= MOST_BODY and len(names.quote(self.prefix + name)) <= MOST_NAME
-        return is_old and is_short and _is_text(file.path) and _is_plain(_head_of(file))
+        bounds = self.bounds
+        is_short = file.stamp.size <= min(bounds.body, bounds.line) and len(names.quote(self.prefix + name)) <= MOST_NAME
+        return is_old and is_short and not self._over_all(name, file.stamp.size) and _is_text(file.path) and _is_plain(_head_of(file))
+
+    def _over_all(self, name: bytes, size: int) -> str:
+        """Why a file of so many bytes is left out, for what there is of all; empty if it is not."""
+        is_new = name not in self.held
+        return self.bounds.over_all(self._bytes - self.held.get(name, 0) + size, len(self.held) + is_new, len(self.held) + is_new)
 
     @property
     def has_unwatched(self) -> bool:
@@ -242,6 +269,19 @@ class Files:
         """Whether the document of a step is new to the session."""
         return name.removeprefix(self.prefix) in self._new
 
+    def unchanged(self, name: bytes) -> bytes | None:
+        """The text of a file that is as it was when it was looked at last; None if that is not known, or it is no document."""
+        stamp, recent = self._known.get(name), self._recent.get(name)
+        if stamp is None or name not in self.held or self._lister.stamp_at(name) != stamp:
+            return None
+        try:
+            body = _body_of(File(os.path.join(self.root, name), stamp))
+        except (OSError, ChangeRefused):
+            return None
+        if recent is not None and hashlib.blake2b(body, digest_size=16).digest() != recent:
+            return None  # the stamp alone does not tell
+        return body if self._lister.stamp_at(name) == stamp else None
+
     def size(self, name: bytes) -> int:
         """The length of a file that was looked at, also one that is left out, in bytes; 0 if there is none."""
         stamp = self._known.get(name)
@@ -283,12 +323,20 @@ class Files:
         began = time.time_ns()
         try:
             names.checked(self.prefix + name)
+            reason = self.bounds.over_size(file.stamp.size) or self._over_all(name, file.stamp.size)
+            if reason:
+                raise ChangeRefused(reason, name)
             body = _body_of(file)
+            if reason := self.bounds.over_line(body):
+                raise ChangeRefused(reason, name)
         except FileNotFoundError:
             return  # the next look finds it gone
         except ChangeRefused as refused:
             yield from self._without(name, refused.reason)
-            self._known[name] = file.stamp
+            if refused.reason in self.bounds.of_all:
+                self._known.pop(name, None)  # it may have room later
+            else:
+                self._known[name] = file.stamp
             return
         except OSError as error:
             # not known, so that it is tried again
@@ -309,6 +357,13 @@ class Files:
         if name in self.held:
             self._drop(name)
             yield None
+
+
+def steps_of_all(source: Source) -> Iterator[Step]:
+    """The steps of a look, and of those that follow it at once."""
+    yield from source.steps()
+    while source.has_more:
+        yield from source.steps()
 
 
 def called(reason: str) -> str:
@@ -480,7 +535,7 @@ class Kept:
     def _send(self, changes: Changes) -> tuple[int, int]:
         put = removed = 0
         loaded: Callable[[], object] | None = None
-        for name, body, done, of, path, under, source in self._source.steps():
+        for name, body, done, of, path, under, source, _ in steps_of_all(self._source):
             self._is_pending = True
             if done % BATCH == 0 and loaded:
                 # while the program has the next ones

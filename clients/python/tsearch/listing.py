@@ -9,7 +9,7 @@ from collections.abc import Iterator
 from typing import NamedTuple
 
 from .ignored import GIT, RULE_FILES, Chain, rules_at
-from .repository import Repository, Unknown, repository_above, repository_at, rules_of, rules_of_user, settings_of_user, tracked
+from .repository import Repository, Unknown, is_of_git, repository_above, repository_at, rules_of, rules_of_user, settings_of_user, tracked
 
 _GIT_FOLDER = b".git"
 # What watchman writes into a folder for a moment, to know that it has been told of all changes before.
@@ -17,6 +17,7 @@ _COOKIE = b".watchman-cookie-"
 # What is below such folders watchman does not tell, by its default.
 _UNWATCHED = {b".svn", b".hg"}
 _NOT_THERE = (FileNotFoundError, NotADirectoryError)
+OF_GIT = "a folder of git's own"
 _NO_INDEX = "files that git tracks though rules name them are left out: the index is of a kind that is not known"
 
 
@@ -62,6 +63,8 @@ class Lister:
         self._repositories: dict[bytes, Repository] = {}
         self._tracked: dict[bytes, set[bytes]] = {}
         self._stamps: dict[bytes, Stamp | None] = {}
+        # whether git's own folders are left out whatever they are called, with all that is in them
+        self.hides_git = False
         # those of the files whose bytes have another name too, through which they may change
         self.linked: set[bytes] = set()
         # whether there are folders that watchman does not look into
@@ -148,7 +151,11 @@ class Lister:
                 if not folder or not isinstance(error, _NOT_THERE):
                     listing.faults[folder or self.root] = error.strerror or str(error)
                 continue
-            chain = self._chain_in(folder, chain, frozenset(entry.name for entry in entries))
+            names = frozenset(entry.name for entry in entries)
+            if self.hides_git and is_of_git(os.path.join(self.root, folder).rstrip(b"/"), names):
+                listing.faults[folder or self.root] = OF_GIT
+                continue
+            chain = self._chain_in(folder, chain, names)
             for entry in entries:
                 path = _inside(folder) + entry.name
                 is_folder = self._is_wanted(entry, chain, path)
@@ -216,7 +223,7 @@ class Lister:
         except OSError:
             return None
         parts = name.split(b"/")
-        if file is None or _GIT_FOLDER in parts or self._has_link(parts):
+        if file is None or _GIT_FOLDER in parts or self._has_link(parts) or self.is_hidden(name):
             return None
         is_tracked = any(name in names for names in self._tracked.values())
         return file if self._is_listed(parts, range(GIT if is_tracked else len(RULE_FILES))) else None
@@ -234,6 +241,12 @@ class Lister:
         """Whether a folder on the way is a symbolic link, which the list does not follow."""
         paths = (os.path.join(self.root, *parts[:count]) for count in range(1, len(parts)))
         return not self._follows and any(map(os.path.islink, paths))
+
+    def is_hidden(self, name: bytes) -> bool:
+        """Whether a folder on the way to a file is git's own, and such are left out."""
+        parts = name.split(b"/")[:-1]
+        paths = (os.path.join(self.root, *parts[:count]).rstrip(b"/") for count in range(len(parts) + 1))
+        return self.hides_git and any(map(is_of_git, paths))
 
     def _is_listed(self, parts: list[bytes], ranks: range) -> bool:
         """Whether the rules of these ranks name neither a path nor a folder above it."""

@@ -19,13 +19,18 @@ MOST_COMMANDS = 4_294_967_294
 # The greatest lengths that it can be told to take, in bytes: of a body and of a line, and of a name as it is written. Clients want all text.
 MOST_BODY = 67_108_864
 MOST_NAME = 4_096
+# Set for the program that the command starts: who finds it set was started by itself.
+_MARK = "TSEARCH_COMMAND"
+# What begins the command of the package: it calls `main`.
+_CALLS = b"from tsearch.program import main"
+_HEAD = 4_096
 _NONE = "there is no program: set TSEARCH to its path, or build it in the repository (./tsearch --path) and install the package again"
 
 
 def find_program() -> str:
     """The path of the program: that of the variable TSEARCH; else that which the package brings along; else that of the repository in
     which this package lies, whose first call compiles it, in some minutes; else the command `tsearch` on the PATH. `Error` if there is
-    none, or TSEARCH names what cannot be run."""
+    none, or TSEARCH names what cannot be run, or the command of this package, which would start itself for ever."""
     found = _named_program() or _own_program() or shutil.which("tsearch")
     if not found:
         raise Error(_NONE)
@@ -37,7 +42,23 @@ def _named_program() -> str | None:
     if named and shutil.which(named) is None:
         why = "is not there" if not os.path.exists(named) else "is a folder" if os.path.isdir(named) else "may not be executed"
         raise Error(f"the variable TSEARCH names {named}, which {why}")
+    if named and _is_command(named):
+        raise Error(_itself(named))
     return named
+
+
+def _itself(named: str) -> str:
+    return f"the variable TSEARCH names {named}, which is the command of the package and would start itself for ever: unset it, or name the program"
+
+
+def _is_command(named: str) -> bool:
+    """Whether it is the command of the package, which starts a program and is none."""
+    try:
+        with open(shutil.which(named) or named, "rb") as file:
+            head = file.read(_HEAD)
+    except OSError:
+        return False  # it may be run and not be read
+    return head.startswith(b"#!") and _CALLS in head
 
 
 def _own_program() -> str | None:
@@ -47,17 +68,34 @@ def _own_program() -> str | None:
 
 
 def main() -> None:
-    """The command `tsearch` of the package: the program that it brings along, with the same words."""
+    """The command `tsearch` of the package: the program that it brings along, with the same words. `--version` says too whether that is the
+    proved one."""
     try:
-        own = _named_program() or _own_program()
+        named = _named_program()
+        own = named or _own_program()
+        if _MARK in os.environ:
+            raise Error(_itself(named) if named else "the command of the package has started itself")  # by a script that starts it
     except Error as error:
         sys.exit(f"tsearch: {error}")
     if own is None:
         sys.exit(f"tsearch: {_NONE}")
     try:
-        os.execvp(own, ["tsearch", *sys.argv[1:]])
+        if sys.argv[1:] == ["--version"]:
+            sys.exit(_say_version(own, named is not None))
+        os.execvpe(own, ["tsearch", *sys.argv[1:]], {**os.environ, _MARK: "1"})
     except OSError as error:
         sys.exit(f"tsearch: {own}: {error.strerror}")
+
+
+def _say_version(own: str, is_named: bool) -> int:
+    """Prints what the program says of itself, and which one it is, as `./tsearch --version` does, which says it itself. Its status."""
+    import subprocess
+
+    done = subprocess.run([own, "--version"], stdout=subprocess.PIPE, env={**os.environ, _MARK: "1"}, check=False)
+    kind = pathlib.Path(own).with_name("kind")
+    which = f" (named by the variable TSEARCH: {own})" if is_named else f" ({kind.read_text(encoding='utf-8').strip()})" if kind.is_file() else ""
+    print(done.stdout.decode(errors="replace").strip() + which, flush=True)
+    return done.returncode
 
 
 def kill_group(process: int) -> None:

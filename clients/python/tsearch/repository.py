@@ -6,11 +6,14 @@ import os
 import re
 import struct
 import subprocess
+from collections.abc import Collection
 from typing import NamedTuple
 
 from .ignored import Rules
+from .reading_git import Reader, text_of_file
 
 _GIT_FOLDER = b".git"
+_GIT_PARTS = {b"HEAD", b"config", b"objects", b"refs", b"packed-refs"}
 # In seconds.
 _GIT_TIME = 60
 _SECTION = re.compile(rb"\s*\[\s*([A-Za-z0-9.-]+)(?:\s+\"(.*)\")?\s*\]")
@@ -43,14 +46,19 @@ def repository_at(top: bytes) -> Repository | None:
     """The repository with its top in this folder, if there is one."""
     folder = os.path.join(top, _GIT_FOLDER)
     if os.path.isfile(folder):
-        head = _read(folder)
+        head = text_of_file(folder)
         if not head.startswith(b"gitdir:"):
             return None
         folder = os.path.join(top, head[7:].strip())
     if not os.path.isfile(os.path.join(folder, b"HEAD")):
         return None
-    common = _read(os.path.join(folder, b"commondir")).strip()
-    return Repository(top, folder, os.path.normpath(os.path.join(folder, common)) if common else folder)
+    return Repository(top, folder, common_of(folder))
+
+
+def common_of(folder: bytes) -> bytes:
+    """The folder that a repository shares with its other working trees, of its own folder: that folder itself, if it has no others."""
+    common = text_of_file(os.path.join(folder, b"commondir")).strip()
+    return os.path.normpath(os.path.join(folder, common)) if common else folder
 
 
 def git_folder(path: bytes) -> bytes | None:
@@ -60,6 +68,13 @@ def git_folder(path: bytes) -> bytes | None:
         return found.folder
     has_all = os.path.isfile(os.path.join(path, b"HEAD")) and all(os.path.isdir(os.path.join(path, part)) for part in (b"objects", b"refs"))
     return path if has_all else None
+
+
+def is_of_git(path: bytes, names: Collection[bytes] | None = None) -> bool:
+    """Whether a folder is git's own, or seems to become or to have been one: by its name, by its objects and names, or by a HEAD beside what else
+    git has there. `names` is what is in it, if that is known."""
+    parts = {part for part in _GIT_PARTS if os.path.lexists(os.path.join(path, part))} if names is None else _GIT_PARTS.intersection(names)
+    return path.endswith(_GIT_FOLDER) or parts >= {b"objects", b"refs"} or (b"HEAD" in parts and len(parts) > 1)
 
 
 def repository_above(folder: bytes) -> Repository | None:
@@ -96,13 +111,13 @@ def _config() -> bytes:
 
 def rules_of(repository: Repository) -> list[Rules]:
     """The rules of a repository and of the user."""
-    return [Rules(_read(path)) for path in (repository.exclude, rules_of_user(repository))]
+    return [Rules(text_of_file(path)) for path in (repository.exclude, rules_of_user(repository))]
 
 
 def tracked(repository: Repository) -> set[bytes]:
     """The files that a repository tracks, by their paths from its top. Those that git lists, if the index is of a kind that is not read
     here. `Unknown` if there is no git either."""
-    data = _read(repository.index)
+    data = text_of_file(repository.index)
     if not data:
         return set()
     is_long = _setting(os.path.join(repository.common, b"config"), b"extensions", b"objectformat") == b"sha256"
@@ -149,10 +164,9 @@ def _number(data: bytes, at: int) -> tuple[int, int]:
 
 
 def _tracked_by_git(repository: Repository) -> set[bytes]:
-    command = [b"git", b"-c", b"core.fsmonitor=false", b"-C", repository.top, b"ls-files", b"-z", b"--cached"]
-    environment = {**os.environ, "LC_ALL": "C", "GIT_OPTIONAL_LOCKS": "0"}
     try:
-        done = subprocess.run(command, stdin=subprocess.DEVNULL, capture_output=True, env=environment, timeout=_GIT_TIME, check=True)
+        done = Reader(repository.folder, repository.common, repository.top).run([b"ls-files", b"-z", b"--cached"], seconds=_GIT_TIME)
+        done.check_returncode()
     except (OSError, subprocess.SubprocessError) as error:
         raise Unknown from error
     return set(done.stdout.split(b"\0")[:-1])
@@ -161,18 +175,10 @@ def _tracked_by_git(repository: Repository) -> set[bytes]:
 def _setting(file: bytes, section: bytes, name: bytes) -> bytes:
     """The value of a setting in a file of settings of git; empty if it is not there."""
     value, here = b"", b""
-    for line in _read(file).split(b"\n"):
+    for line in text_of_file(file).split(b"\n"):
         if found := _SECTION.match(line):
             here = b"" if found[2] else found[1].lower()
             line = line[found.end() :]
         if (found := _SETTING.match(line)) and here == section and found[1].lower() == name:
             value = found[2].strip().strip(b'"')
     return value
-
-
-def _read(path: bytes) -> bytes:
-    try:
-        with open(path, "rb") as file:
-            return file.read()
-    except OSError:
-        return b""

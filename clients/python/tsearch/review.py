@@ -9,20 +9,23 @@
 from __future__ import annotations
 
 import bisect
+import contextlib
 import dataclasses
-import difflib
 import itertools
 import os
 import re
+import threading
 from collections.abc import Callable, Iterable, Iterator
 from types import TracebackType
 from typing import NamedTuple, Unpack
 
 from .answers import Answer, Hit
+from .bounds import Bounds
+from .comparing import Budget, blocks
 from .core import after_line
-from .errors import ChangeRefused, Ended, Error
+from .errors import Cancelled, ChangeRefused, Ended, SearchRefused
 from .folder import called, text_body
-from .git import FILE_KINDS, Entry, Store, reason_of
+from .git import FILE_KINDS, Entry, NoRepository, Store, reason_of, rows_of
 from .names import quote, to_bytes
 from .paths import check, under
 from .query import Options, Query
@@ -34,8 +37,11 @@ _BEFORE, _AFTER = b"-:", b"+:"
 _INDEX = re.compile(rb"index ([0-9a-f]+)\.\.([0-9a-f]+)")
 _HUNK = re.compile(rb"@@ -(\d+)(?:,(\d+))? \+(\d+)(?:,(\d+))? @@")
 _FILE = b"diff --git "
-# Texts that git does not compare are compared here, up to so many lines; longer ones are replaced as a whole.
-_MOST_COMPARED = 5_000
+# Texts that git does not compare are compared here, up to so many lines and in so many steps for all of a patch. A longer one, and one that
+# takes more, is replaced as a whole, but for the first and the last lines that both have.
+_MOST_COMPARED, _MOST_STEPS = 100_000, 1_000_000
+# In so many places a file differs, and all files of a patch together; one that differs in more is replaced from the first to the last.
+_MOST_HUNKS, _MOST_HUNKS_OF_ALL = 50_000, 200_000
 _numbers = itertools.count(1)
 
 
@@ -73,11 +79,13 @@ class Line(NamedTuple):
 
 
 class File(NamedTuple):
-    """A file with such lines: its path before and after, None where it is not, and the lines in the order of the patch."""
+    """A file with such lines: its path before and after, None where it is not, and the lines in the order of the patch. One that is coarse has
+    lines that are both removed and added: to compare it as exactly as others would take too long."""
 
     before: bytes | None
     after: bytes | None
     lines: list[Line]
+    is_coarse: bool = False
 
     @property
     def name(self) -> bytes:
@@ -102,18 +110,30 @@ class Patch:
     """The files in which two commits differ. It sends nothing.
 
     whole: whether it has the files too that both have alike.
+    bounds: what it has at most. Files that are too long, or have too long lines, are left out; `SearchRefused` if there are too many, or they
+        have too many bytes together.
     """
 
-    def __init__(self, store: Store, before: str, after: str, whole: bool = False) -> None:
+    def __init__(self, store: Store, before: str, after: str, whole: bool = False, bounds: Bounds = Bounds()) -> None:
         self.store = store
+        self.bounds = bounds
+        # what takes long ends soon after this is false
+        self.is_wanted = True
+        self._budget = Budget(_MOST_STEPS, lambda: self.is_wanted)
+        # the pairs of objects that are compared coarsely
+        self._coarse: set[tuple[bytes, bytes]] = set()
         commits = store.commits([before, after])
         for name in before, after:
             if name not in commits:
-                raise Error(f"{name} is not a commit of {os.fsdecode(store.path)}")
+                raise NoRepository(f"{name} is not a commit of {os.fsdecode(store.path)}", f"{name} is not a commit of it")
         self.before, self.after = commits[before], commits[after]
-        self.changed = list(_changed(store, self.before, self.after))
+        self.changed = list(_changed(store, self.before, self.after, bounds.files))
+        if bounds.files is not None and len(self.changed) > bounds.files:
+            raise SearchRefused(f"the patch has over {bounds.files:,} files")
         self._whole = whole
         self._hunks: dict[tuple[bytes, bytes], list[Hunk]] | None = None
+        # threads search at a time
+        self._comparing = threading.Lock()
         # of both sides, by the name of the document
         self.left_out: dict[bytes, str] = {}
         # of files whose text git does not compare
@@ -132,8 +152,10 @@ class Patch:
                 self.left_out[name] = reason_of(entry)
             else:
                 by_object.setdefault(entry.object, []).append(name)
-        for number, found in self.store.bodies(list(by_object)):
+        for number, found in self.store.bodies(list(by_object), self._over()):
             body = text_body(found) if isinstance(found, bytes) else found
+            if isinstance(body, bytes):
+                body = self.bounds.over_size(len(body)) or self.bounds.over_line(body) or body
             for name in by_object[number]:
                 if isinstance(body, str):
                     self.left_out[name] = body
@@ -142,16 +164,45 @@ class Patch:
             if isinstance(found, bytes) and isinstance(body, bytes) and b"\0" in found:
                 self._texts[number] = body
 
+    def _over(self) -> Callable[[bytes, int], str]:
+        """What says of objects with their bytes, one after the other, why they are left out."""
+        size = 0
+
+        def over(number: bytes, more: int) -> str:
+            nonlocal size
+            if not self.is_wanted:
+                raise Cancelled("cancelled")
+            reason = self.bounds.over_size(more)
+            size += 0 if reason else more
+            if self.bounds.bytes is not None and size > self.bounds.bytes:
+                raise SearchRefused(f"the files of the patch have over {self.bounds.bytes:,} bytes")
+            return reason
+
+        return over
+
     def hunks(self, was: Entry, now: Entry) -> list[Hunk]:
         """Where two files differ."""
         if was.object == now.object:
             return []
-        if self._hunks is None:
-            self._hunks = _hunks(self.store, self.before, self.after)
-        pair = (was.object, now.object)
-        if pair not in self._hunks:
-            self._hunks[pair] = _compared(*(self._text(number).split(b"\n") for number in pair))
-        return self._hunks[pair]
+        self.compare()
+        with self._comparing:
+            assert self._hunks is not None
+            pair = (was.object, now.object)
+            if pair not in self._hunks:
+                self._hunks[pair], is_exact = _compared(self._text(was.object), self._text(now.object), self._budget)
+                if not is_exact:
+                    self._coarse.add(pair)
+            return self._hunks[pair]
+
+    def compare(self) -> None:
+        """Lets git compare the files, if it has not."""
+        with self._comparing:
+            if self._hunks is None:
+                self._hunks, self._coarse = _hunks(self.store, self.before, self.after, lambda: self.is_wanted)
+
+    def is_coarse(self, was: Entry | None, now: Entry | None) -> bool:
+        """Whether two files are compared coarsely."""
+        return was is not None and now is not None and (was.object, now.object) in self._coarse
 
     def _text(self, number: bytes) -> bytes:
         if number not in self._texts:
@@ -169,15 +220,21 @@ class Patch:
             new = hits.pop(_AFTER + after, []) if after is not None else []
             if old or new:
                 is_on_both = was is not None and now is not None and {_BEFORE + (before or b""), _AFTER + (after or b"")}.isdisjoint(self.left_out)
-                files.append(File(before, after, _lines(old, new, self.hunks(was, now) if is_on_both and was and now else None)))
+                hunks = self.hunks(was, now) if is_on_both and was and now else None
+                files.append(File(before, after, _lines(old, new, hunks), self.is_coarse(was, now)))
         for name, found in hits.items():
             path = name.removeprefix(_AFTER)
             files.append(File(path, path, [Line(LEFT, hit.line, hit.line, hit.text, hit.spans) for hit in found]))
         return iter(sorted(files, key=lambda file: quote(file.name)))
 
 
-def _changed(store: Store, before: str, after: str) -> Iterator[Changed]:
-    rows = iter(store.run("diff-tree", "-r", "-z", "--raw", "--no-abbrev", "-M", before, after).split(b"\0")[:-1])
+def _changed(store: Store, before: str, after: str, most: int | None) -> Iterator[Changed]:
+    """The files that differ; with `most` the first ones, and one more if there are more."""
+    with contextlib.closing(rows_of(store, ["diff-tree", "-r", "-z", "--raw", "--no-abbrev", "-M", before, after])) as rows:
+        yield from itertools.islice(_changed_in(rows), None if most is None else most + 1)
+
+
+def _changed_in(rows: Iterator[bytes]) -> Iterator[Changed]:
     for row in rows:
         old_kind, new_kind, old, new, status = row.removeprefix(b":").split(b" ")
         path = next(rows)
@@ -186,13 +243,19 @@ def _changed(store: Store, before: str, after: str) -> Iterator[Changed]:
         yield Changed(was, now, Entry(old_kind, old) if was is not None else None, Entry(new_kind, new) if now is not None else None)
 
 
-def _hunks(store: Store, before: str, after: str) -> dict[tuple[bytes, bytes], list[Hunk]]:
-    """The hunks for each pair of objects that git compares."""
+Pair = tuple[bytes, bytes]
+
+
+def _hunks(store: Store, before: str, after: str, is_wanted: Callable[[], bool]) -> tuple[dict[Pair, list[Hunk]], set[Pair]]:
+    """The hunks for each pair of objects that git compares, and the pairs with too many: these have one, from the first to the last."""
     words = ("diff-tree", "-r", "-M", "-p", "-U0", "--full-index", "--diff-filter=MR", "--no-ext-diff", "--no-textconv", "--no-color")
     data = store.run(*words, before, after)
-    found: dict[tuple[bytes, bytes], list[Hunk]] = {}
-    pair, at = (b"", b""), 0
+    found: dict[Pair, list[Hunk]] = {}
+    coarse: set[Pair] = set()
+    pair, at, count = (b"", b""), 0, 0
     while at < len(data):
+        if not is_wanted():
+            raise Cancelled("cancelled")
         end = data.find(b"\n", at) + 1 or len(data)
         line = data[at:end]
         at = end
@@ -204,19 +267,32 @@ def _hunks(store: Store, before: str, after: str) -> dict[tuple[bytes, bytes], l
             found[pair] = []  # it is compared
         elif hunk := _HUNK.match(line):
             old, removed, new, added = (1 if text is None else int(text) for text in hunk.groups())
-            found[pair].append(Hunk(old + (removed == 0), removed, new + (added == 0), added))
-            for count in removed, added:
-                at = after_line(data, at, count) if count else at
+            hunks = found[pair]
+            hunks.append(Hunk(old + (removed == 0), removed, new + (added == 0), added))
+            count += 1
+            if pair in coarse or len(hunks) > _MOST_HUNKS or count > _MOST_HUNKS_OF_ALL:
+                coarse.add(pair)
+                count -= len(hunks) - 1
+                found[pair] = [_around(hunks[0], hunks[-1])]
+            for lines in removed, added:
+                at = after_line(data, at, lines) if lines else at
                 # "\ No newline at end of file"
                 at = data.find(b"\n", at) + 1 if data.startswith(b"\\ ", at) else at
-    return found
+    return found, coarse
 
 
-def _compared(old: list[bytes], new: list[bytes]) -> list[Hunk]:
-    if max(len(old), len(new)) > _MOST_COMPARED:
-        return [Hunk(1, len(old), 1, len(new))]
-    steps = difflib.SequenceMatcher(None, old, new, autojunk=False).get_opcodes()
-    return [Hunk(a + 1, b - a, c + 1, d - c) for kind, a, b, c, d in steps if kind != "equal"]
+def _around(first: Hunk, last: Hunk) -> Hunk:
+    """One that has two others, and all between."""
+    return Hunk(first.before, last.before + last.removed - first.before, first.after, last.after + last.added - first.after)
+
+
+def _compared(old: bytes, new: bytes, budget: Budget) -> tuple[list[Hunk], bool]:
+    """Where two texts differ, and whether that is exact."""
+    lines = [text.count(b"\n") + 1 for text in (old, new)]
+    if max(lines) > _MOST_COMPARED:
+        return [Hunk(1, lines[0], 1, lines[1])], False
+    found, is_exact = blocks(old.split(b"\n"), new.split(b"\n"), budget)
+    return [Hunk(a + 1, removed, b + 1, added) for a, removed, b, added in found], is_exact
 
 
 def _lines(old: list[Hit], new: list[Hit], hunks: list[Hunk] | None) -> list[Line]:
@@ -290,7 +366,7 @@ def seen_by(sees: Callable[[bytes], bool] | None, files: Iterable[File]) -> Iter
         if sees is None or None in (file.before, file.after) or sees(file.before or b""):
             yield file
         else:
-            yield File(None, file.after, [line._replace(sign=ADDED, before=None) for line in file.lines if line.sign != REMOVED])
+            yield file._replace(before=None, lines=[line._replace(sign=ADDED, before=None) for line in file.lines if line.sign != REMOVED])
 
 
 class Review:

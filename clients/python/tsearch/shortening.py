@@ -34,6 +34,12 @@ def shortened(text: bytes, spans: Sequence[tuple[int, int]], longest: int = LONG
     return parts
 
 
+def beginning(text: bytes, length: int) -> bytes:
+    """What is shown of a line of so many bytes, more than `LONGEST`, that has no matches and begins with a text of so many."""
+    at = _to(text, length, 2 * _AROUND)
+    return text[:at] + _gap(length - at)
+
+
 def _gap(length: int, more: str = "") -> bytes:
     return f" [... {length:,} bytes{more} ...] ".encode() if length else b""
 

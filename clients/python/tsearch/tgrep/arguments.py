@@ -125,6 +125,8 @@ def _settle(given):
     """What one option means for others."""
     if sum(key in given for key in ("at", "changed", "diff")) > 1:
         raise Refused("give one of --at, --changed and --diff")
+    if given.get("run_filters") and "changed" not in given:
+        raise Refused("--run-filters goes with --changed")
     if given.get("pretty"):
         given.update({"color": "always", "heading": True, "line_number": True})
     if given.get("color") == "ansi":

@@ -51,6 +51,7 @@ GROUPS = (
             (("--files",), None, "files", True, "shows the paths of the files that would be searched"),
             (("--at",), "REV", "at", "text", "the files of a commit of git, and not those of the folder; they are shown as REV:PATH"),
             (("--changed",), "[REV]", "changed", "HEAD", "only files that are not as in the commit REV, or HEAD, and new ones: --changed=REV"),
+            (("--run-filters",), None, "run_filters", True, "with --changed: runs the filters that git's settings name, which may be a stranger's, to compare the files that have one; without it no program is run"),
             (("--diff",), "A..B", "diff", "text", "what a patch does: the lines with a match that it removes, adds and leaves, each as PATH:OLD:NEW: and a -, + or space"),
             (("--root",), "FOLDER", "root", "text", "the top of the tree that the server keeps"),
         ),

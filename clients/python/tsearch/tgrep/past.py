@@ -9,27 +9,25 @@ import contextlib
 import itertools
 import os
 import re
-import subprocess
 from collections.abc import AsyncIterator, Awaitable, Callable, Collection, Iterator
 from typing import Any
 
 from .. import aio
 from ..errors import Error
 from ..folder import BATCH, called, text_body, text_of
-from ..git import FILE_KINDS, NoRepository, Store, not_run
+from ..git import FILE_KINDS, Store
 from ..names import to_bytes
 from . import places
 from .answering import Call, Part, Reply
 from .asking import Piece, inside
 from .patches import PatchCall
 from .tree import readers
+from .unlike import unlike
 
 # How many sessions are kept for later calls.
 _MOST = 2
 _RANGE = re.compile(r"(.*?)(\.{2,3})(.*)", re.DOTALL)
 _HEAD = "HEAD"
-# In seconds.
-_GIT_TIME = 120
 
 
 class Some:
@@ -112,8 +110,11 @@ class Past:
             commit = await asyncio.to_thread(_commit, store, given["at"])
             async with self._lent(("at", commit), lambda: self._commit(store, commit)) as some:
                 return await _searched(request, reply, top, some, to_bytes(given["at"]) + b":")
-        some = await self._changed(store, given["changed"], top)
+        some, unfiltered = await self._changed(store, given["changed"], top, "run_filters" in given)
         try:
+            if unfiltered and not given.get("no_messages"):
+                what = "1 file has a filter of git and was" if unfiltered == 1 else f"{unfiltered} files have a filter of git and were"
+                reply.error(f"tgrep: {what} compared without it: --run-filters runs it\n".encode())
             return await _searched(request, reply, top, some, b"")
         finally:
             await some.close()
@@ -179,9 +180,9 @@ class Past:
             await session.close()
             raise
 
-    async def _changed(self, store: Store, revision: str, top: str) -> Some:
-        await asyncio.to_thread(_commit, store, revision)
-        names = await asyncio.to_thread(_not_as_in, top, revision)
+    async def _changed(self, store: Store, revision: str, top: str, runs_filters: bool) -> tuple[Some, int]:
+        """The files that are not as in a commit, and how many of them were compared without the filter that they have."""
+        names, unfiltered = await asyncio.to_thread(lambda: unlike(store, _commit(store, revision), runs_filters))
 
         def body(name: bytes) -> bytes:
             with contextlib.suppress(OSError), open(os.path.join(os.fsencode(top), name), "rb") as file:
@@ -198,7 +199,7 @@ class Past:
                     except OSError as error:
                         yield name, error.strerror or str(error)
 
-        return await Some.of(texts(), body, self._messages)
+        return await Some.of(texts(), body, self._messages), unfiltered
 
 
 def _commit(store: Store, name: str) -> str:
@@ -215,26 +216,10 @@ def _ends(store: Store, words: str) -> tuple[str, str]:
         raise Error(f"--diff {words}: write --diff A..B")
     before, after = (_commit(store, one or _HEAD) for one in (found[1], found[3]))
     if found[2] == "...":
-        before = store.run("merge-base", before, after).decode().strip()
+        before = store.run("merge-base", before, after, may_be_none=True).decode().strip()
         if not before:
             raise Error(f"--diff {words}: the two have no commit in common")
     return before, after
-
-
-def _not_as_in(top: str, revision: str) -> list[bytes]:
-    """The files that are not as in a commit, and those that git does not know and no rule names."""
-    environment = {**os.environ, "LC_ALL": "C", "GIT_OPTIONAL_LOCKS": "0"}
-    names: set[bytes] = set()
-    for words in ["diff", "--name-only", "-z", "--no-renames", "--no-ext-diff", revision, "--"], ["ls-files", "-z", "--others", "--exclude-standard"]:
-        try:
-            command = ["git", "-c", "core.fsmonitor=false", "-C", top, *words]
-            done = subprocess.run(command, stdin=subprocess.DEVNULL, capture_output=True, env=environment, timeout=_GIT_TIME, check=False)
-        except (OSError, subprocess.SubprocessError) as error:
-            raise NoRepository(f"{top}: {not_run(error)}") from None
-        if done.returncode:
-            raise NoRepository(done.stderr.decode(errors="replace").strip())
-        names.update(done.stdout.split(b"\0")[:-1])
-    return sorted(names)
 
 
 def _pieces(request: dict[str, Any], top: str, before: bytes, files: Collection[bytes | None]) -> list[tuple[Piece, bytes | None, str]]:

@@ -11,6 +11,8 @@ import time
 from collections.abc import Iterable
 from typing import IO
 
+from aiohttp import web
+
 _BOUNDS = (0.005, 0.01, 0.025, 0.05, 0.1, 0.25, 0.5, 1.0, 2.5, 5.0, 10.0)
 
 
@@ -62,6 +64,29 @@ def memory_of(processes: Iterable[int | None]) -> int:
         with contextlib.suppress(OSError, ValueError, IndexError), open(f"/proc/{process}/statm", encoding="ascii") as file:
             pages += int(file.read().split()[1])
     return pages * os.sysconf("SC_PAGE_SIZE")
+
+
+class Counted(web.StreamResponse):
+    """An answer that comes piece by piece: how many bytes its body has so far."""
+
+    written = 0
+
+    async def write(self, data: bytes) -> None:
+        """Writes a piece."""
+        self.written += len(data)
+        await super().write(data)
+
+    async def write_eof(self, data: bytes = b"") -> None:
+        """Writes the last piece."""
+        self.written += len(data)
+        await super().write_eof(data)
+
+
+def length_of(request: web.BaseRequest, response: web.StreamResponse) -> int:
+    """How many bytes the body of an answer has. One that does not come piece by piece is sent only after it is logged."""
+    if isinstance(response, Counted):
+        return response.written
+    return 0 if request.method == "HEAD" else response.content_length or 0
 
 
 class Log:

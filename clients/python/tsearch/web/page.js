@@ -12,16 +12,25 @@ const LEAST = 3;
 // In milliseconds: when a search is made again that a program did not answer since it starts again; and after what silence all lines are
 // counted.
 const AGAIN = 500, SILENCE = 400;
+// So many of those for which the others did not wait are asked by themselves.
+const MOST_LATE = 8;
+// Lines of a file: how many are asked for at a time, how many of them before one that is jumped to, how many are shown at most, and how near
+// to the last one that is shown more are asked for.
+const WINDOW = 2000, BEFORE = 500, MOST_ROWS = 6000, NEAR = "800px 0px";
 // The words of an address that say which file is open.
 const OF_FILE = ["of", "file", "commit", "life", "version", "lines"];
 // Letters that turn the order of others around.
 const TURNING = /[\u061c\u200e\u200f\u202a-\u202e\u2066-\u2069]/;
 
 let running = null, turn = 0, searched = "", served = [], shownFile = null, counting = 0, viewed = 0;
+// What the server has said of the file that is open; null if it has none.
+let shownState = null;
 // Repositories that the address of the page names and that are not served: the answer says so, until something else is asked for.
 let strange = [];
 // Of the answer that is shown: the hits of each file of a state, and the lines of each repository.
 let found = new Map(), heads = new Map();
+// What is shown of the file that is open: the words that ask for it, and from which line to which, of how many.
+let part = null;
 
 function element(tag, className, text) {
   const made = document.createElement(tag);
@@ -102,7 +111,7 @@ function complain(told) {
   show("");
 }
 
-const slowness = (told) => ((told.refused || told.fault) === "too slow" ? ` after ${told.milliseconds} ms; try a narrower one` : "");
+const slowness = (told) => (told.milliseconds ? ` after ${told.milliseconds} ms; try a narrower one` : "");
 
 // Results.
 
@@ -152,8 +161,8 @@ function addDocument(document) {
 }
 
 // The place of a repository in the results, with what is said of it.
-function addHead(told, several) {
-  const group = element("div", "group"), head = { ...told, group, told: element("span", "count") };
+function addHead(told, several, group = element("div", "group")) {
+  const head = { ...told, group, told: element("span", "count") };
   heads.set(told.repository, head);
   if (several && (told.lines || told.fault)) {
     const title = element("h2");
@@ -170,8 +179,9 @@ function addHead(told, several) {
     group.append(title);
   }
   head.told.textContent = told.fault ? "" : told.more ? `the first ${counted(told.lines, "line")}` : counted(told.lines, "line");
-  if (told.fault) group.append(element("p", "missing", `${told.repository} gives no answer: ${told.fault}${slowness(told)}.`));
-  results.append(group);
+  const fault = told.alone ? "takes longer than the others, and is asked by itself" : `gives no answer: ${told.fault}${slowness(told)}`;
+  if (told.fault) group.append(element("p", "missing", `${told.repository} ${fault}.`));
+  if (!group.parentNode) results.append(group);
 }
 
 function chooseOnly(repository) {
@@ -184,7 +194,7 @@ function addReviewed(told, head) {
   const side = told.after || told.before;
   const title = told.before && told.after && told.before.name !== told.after.name ? `${told.before.name} → ${told.after.name}` : side.name;
   const signs = ["-", "+", " "].map((sign) => told.hits.filter((hit) => hit.sign === sign).length);
-  const section = sectionOf(title, `−${signs[0]} +${signs[1]}, ${signs[2]} left`);
+  const section = sectionOf(title, `−${signs[0]} +${signs[1]}, ${signs[2]} left${told.coarse ? ", compared coarsely: it takes too long" : ""}`);
   for (const place of ["before", "after"]) {
     const hits = told.hits.filter((hit) => hit[place]).map((hit) => ({ ...hit, line: hit[place] }));
     if (hits.length) found.set(keyOf({ of: head.repository, file: told[place].id, commit: head[place] }), hits);
@@ -261,12 +271,14 @@ function again(own) {
 }
 
 async function searchAll(words, own) {
+  const late = [];
   let total = null, isAgain = false;
   for await (const told of answerOf("api/find", words, own)) {
     if (told.hits) addDocument(told);
     else if (told.repository !== undefined) {
       addHead(told, served.length > 1);
       isAgain ||= Boolean(told.again);
+      if (told.alone) late.push(told.repository);
     } else total = told;
   }
   if (!total) return;
@@ -274,12 +286,37 @@ async function searchAll(words, own) {
   showTotal(total);
   markFile();
   if (isAgain) again(own);
+  else searchLate(words, own, total, late.slice(0, MOST_LATE)).catch(() => {});
   if (total.more) counting = setTimeout(() => count(words, own, total), SILENCE);
+}
+
+// Asks those by themselves for which the others did not wait, one after the other, and shows what they answer in their places.
+async function searchLate(words, own, total, names) {
+  for (const name of names) {
+    const sent = new URLSearchParams(words), { group } = heads.get(name);
+    sent.set("repository", name);
+    sent.set("visitor", visitor);
+    sent.set("turn", String(++turn));
+    for await (const told of linesOf(await fetch(`api/find?${sent}`, { signal: own.signal }))) {
+      if (own.signal.aborted || running !== own) return;
+      if (told.hits) addDocument(told);
+      else if (told.repository === undefined && !told.refused) {
+        total.lines += told.lines;
+        total.more ||= told.more;
+        total.missing = total.missing.filter((one) => one !== name);
+      } else {
+        group.replaceChildren();
+        addHead({ ...told, repository: name, fault: told.refused || told.fault, alone: false }, true, group);
+      }
+    }
+    showTotal(total);
+    markFile();
+  }
 }
 
 function showTotal(total) {
   const files = counted(results.querySelectorAll("section").length, "file");
-  const missing = total.missing ? ` No answer from ${total.missing.join(", ")}.` : "";
+  const missing = total.missing && total.missing.length ? ` No answer from ${total.missing.join(", ")}.` : "";
   const first = total.all ? `the first ${total.lines.toLocaleString("en")} of ${counted(total.all, "line")}` : `the first ${counted(total.lines, "line")}`;
   const lines = `${total.more ? first : counted(total.lines, "line")} in ${files}${total.more && !total.all ? ", and there are more" : ""}`;
   show((total.lines ? `${lines}, in ${Math.round(total.seconds * 1000)} ms.` : "No line matches.") + missing);
@@ -337,6 +374,20 @@ const rangeOf = (file) => {
   return first > 0 ? [first, Math.max(last || first, first)] : [0, 0];
 };
 
+// Some lines of a file. The answer may have fewer than are asked for, and at least one.
+async function windowOf(words, id, from, to) {
+  const asked = new URLSearchParams(words);
+  asked.set("from", from);
+  asked.set("to", to);
+  try {
+    return await (await fetch(`api/file?${asked}&name=${id}`)).json();
+  } catch (error) {
+    return { refused: "The server does not answer" };
+  }
+}
+
+const lastOf = (told) => told.from + told.lines.length - 1;
+
 async function view(file, isWhole = false) {
   const own = ++viewed, words = new URLSearchParams();
   words.set("repository", file.of);
@@ -344,37 +395,104 @@ async function view(file, isWhole = false) {
   // the file as it is, where it is no longer known as it was
   words.set("now", "1");
   if (isWhole) words.set("whole", "1");
-  let told;
-  try {
-    told = await (await fetch(`api/file?${words}&name=${file.file}`)).json();
-  } catch (error) {
-    told = { refused: "The server does not answer" };
-  }
+  const wanted = rangeOf(file)[0] || 1, from = Math.max(1, wanted - BEFORE);
+  let told = await windowOf(words, file.file, from, from + WINDOW - 1);
+  // one that is behind the end, or behind long lines
+  const again = told.refused || wanted <= lastOf(told) ? 0 : Math.min(wanted, told.of);
+  if (again && again > lastOf(told)) told = await windowOf(words, file.file, again, again + WINDOW - 1);
   if (own !== viewed) return;
-  const lines = at("file-lines");
-  const name = at("file-name");
+  const lines = at("file-lines"), name = at("file-name");
   name.replaceChildren();
   write(name, told.refused ? `${file.of}: ${file.file}` : `${file.of}/${told.name}`);
   if (told.commit) name.append(" ", element("span", "revision", told.commit.slice(0, 12)));
   at("file").hidden = false;
-  showLinks(file, told);
+  shownState = told.refused ? null : told;
+  at("file-jump").hidden = Boolean(told.refused) || told.of <= told.lines.length;
+  showLinks(file);
   if (told.refused) {
+    part = null;
     lines.replaceChildren(element("p", "note", `${told.refused}. Search again to see it as it is now.`));
     name.focus();
     return;
   }
-  lines.replaceChildren(...told.lines.map((text, index) => lineOf(file, text, index + 1)));
+  // what follows is of the same state
+  for (const word of ["life", "version"]) if (told[word] !== undefined) words.set(word, told[word]);
+  part = { file, words, own, first: told.from, last: lastOf(told), of: told.of, isBusy: false };
+  at("file-of").textContent = `of ${told.of.toLocaleString("en")}`;
+  lines.replaceChildren(...rowsOf(told));
   if (told.changed) lines.prepend(element("p", "note", "The file has changed since; this is how it is now."));
-  if (told.cut) {
-    const whole = element("button", "note", "Long lines are cut: show them whole");
+  lines.dataset.whole = isWhole ? "1" : "";
+  showEnds(told);
+  markFile();
+  showRange(file, true);
+  name.focus({ preventScroll: true });
+}
+
+const rowsOf = (told) => told.lines.map((text, index) => lineOf(part.file, text, told.from + index));
+
+// Shows whether there are more lines before and behind those that are shown, and whether some are cut.
+function showEnds(told) {
+  const lines = at("file-lines");
+  lines.querySelectorAll(".more").forEach((button) => button.remove());
+  if (told.cut && !lines.dataset.whole && !lines.querySelector(".whole")) {
+    const whole = element("button", "note whole", "Long lines are cut: show them whole"), file = part.file;
     whole.type = "button";
     whole.addEventListener("click", () => view(file, true));
     lines.prepend(whole);
   }
-  lines.dataset.whole = isWhole ? "1" : "";
+  if (part.first > 1) rowsOfFile()[0].before(moreButton(-1));
+  if (part.last < part.of) lines.append(moreButton(1));
+}
+
+function moreButton(side) {
+  const button = element("button", "note more", side < 0 ? "Lines before these" : "Lines behind these");
+  button.type = "button";
+  button.addEventListener("click", () => showMore(side));
+  ends.observe(button);
+  button.dataset.side = side;
+  return button;
+}
+
+const ends = new IntersectionObserver((seen) => {
+  for (const one of seen) if (one.isIntersecting && one.target.isConnected) showMore(Number(one.target.dataset.side));
+}, { root: at("file-lines"), rootMargin: NEAR });
+
+// Shows more lines before or behind those that are shown, and of those on the other side no more than there may be.
+async function showMore(side) {
+  const own = part;
+  if (!own || own.isBusy) return;
+  own.isBusy = true;
+  let told, count = WINDOW;
+  do {
+    const from = side < 0 ? Math.max(1, own.first - count) : own.last + 1;
+    told = await windowOf(own.words, own.file.file, from, side < 0 ? own.first - 1 : own.last + WINDOW);
+    // lines before have to come up to those that are shown
+    count = told.refused ? 0 : Math.min(told.lines.length, Math.ceil(count / 2));
+  } while (side < 0 && !told.refused && lastOf(told) < own.first - 1);
+  if (own !== part || own.own !== viewed) return;
+  own.isBusy = false;
+  if (told.refused || told.changed || !told.lines.length) return told.changed ? view(own.file) : undefined;
+  const lines = at("file-lines"), rows = rowsOf(told), old = [...rowsOfFile()];
+  const anchor = side < 0 ? old[0] : old[old.length - 1], place = anchor.getBoundingClientRect().top;
+  if (side < 0) old[0].before(...rows);
+  else old[old.length - 1].after(...rows);
+  const over = Math.max(old.length + rows.length - MOST_ROWS, 0);
+  (side < 0 ? old.slice(old.length - over) : old.slice(0, over)).forEach((row) => row.remove());
+  if (side < 0) [own.first, own.last] = [told.from, own.last - over];
+  else [own.first, own.last] = [own.first + over, lastOf(told)];
+  showEnds(told);
   markFile();
-  showRange(file, true);
-  name.focus({ preventScroll: true });
+  showRange(shownFile, false);
+  if (anchor.isConnected) lines.scrollTop += anchor.getBoundingClientRect().top - place;
+}
+
+// Shows a line that is asked for by its number.
+function jump() {
+  const number = Number(at("file-line").value.replaceAll(",", ""));
+  if (!part || !Number.isInteger(number) || number < 1) return;
+  shownFile = { ...shownFile, lines: String(Math.min(number, part.of)) };
+  history.replaceState(null, "", addressOf(shownFile));
+  view(shownFile, Boolean(at("file-lines").dataset.whole));
 }
 
 function lineOf(file, text, number) {
@@ -389,7 +507,7 @@ function lineOf(file, text, number) {
     shownFile = { ...shownFile, lines: ends.join("-") };
     history.replaceState(null, "", addressOf(shownFile));
     showRange(shownFile, false);
-    showLinks(shownFile, null);
+    showLinks(shownFile);
   });
   row.append(label, column);
   return row;
@@ -399,16 +517,16 @@ const rowsOfFile = () => document.querySelectorAll("#file-lines .row");
 
 function showRange(file, scrolls) {
   const [first, last] = rangeOf(file), rows = rowsOfFile();
-  rows.forEach((row, index) => row.classList.toggle("target", index + 1 >= first && index + 1 <= last));
-  if (scrolls && first && rows[first - 1]) rows[first - 1].scrollIntoView({ block: "center" });
+  rows.forEach((row, index) => row.classList.toggle("target", index + part.first >= first && index + part.first <= last));
+  if (scrolls && first && rows[first - part.first]) rows[first - part.first].scrollIntoView({ block: "center" });
 }
 
 // Shows the matches of the answer in the file that is open, if it is of the same state.
 function markFile() {
-  if (!shownFile) return;
+  if (!shownFile || !part) return;
   const rows = rowsOfFile();
   for (const hit of found.get(keyOf(shownFile)) || []) {
-    const text = rows[hit.line - 1]?.querySelector(".text");
+    const text = rows[hit.line - part.first]?.querySelector(".text");
     if (text && !(hit.cut && at("file-lines").dataset.whole)) {
       text.replaceChildren();
       partsInto(text, hit.parts);
@@ -416,13 +534,13 @@ function markFile() {
   }
 }
 
-function showLinks(file, told) {
-  const one = served.find((other) => other.repository === file.of), host = at("file-host");
+// The address of this page may be anybody's, so the link to the host is made of what the server has said.
+function showLinks(file) {
+  const told = shownState, one = told && served.find((other) => other.repository === told.repository), host = at("file-host");
   at("file-link").href = addressOf(file);
-  const commit = file.commit || (told && told.commit);
-  host.hidden = !(one && one.link && commit);
-  if (host.hidden) return;
-  const values = { commit, path: file.file, line: String(rangeOf(file)[0] || 1), repository: encodeURIComponent(file.of) };
+  host.hidden = !(one && one.link && told.commit);
+  if (host.hidden) return host.removeAttribute("href");
+  const values = { commit: told.commit, path: told.id, line: String(rangeOf(file)[0] || 1), repository: encodeURIComponent(told.repository) };
   host.href = one.link.replace(/\{(commit|path|line|repository)\}/g, (all, word) => values[word]);
 }
 
@@ -445,17 +563,24 @@ async function showLoaded() {
     const documents = told.repositories.reduce((sum, one) => sum + (one.documents || 0), 0);
     const loading = told.repositories.filter((one) => !one.loaded);
     if (pattern.value) return;
+    const over = told.repositories.filter((one) => one.over).map(overOf).join("");
     const faults = told.repositories.filter((one) => one.fault).map((one) => ` ${one.repository}: ${one.fault}.`).join("");
     const few = told.workers && told.workers.needed > told.workers.there ? ` ${told.workers.needed} workers are needed, and there are ${told.workers.there}.` : "";
     if (loading.length) {
       const done = loading.reduce((sum, one) => sum + one.done, 0), of = loading.reduce((sum, one) => sum + one.of, 0);
       show(`Loading: ${done.toLocaleString("en")} of ${counted(of, "file")}.${faults}${few}`);
       setTimeout(showLoaded, 500);
-    } else show(`${counted(documents, "file")} to search.${faults}${few}`);
+    } else show(`${counted(documents, "file")} to search.${over}${faults}${few}`);
     return told;
   } catch (error) {
     show("The server does not answer.");
   }
+}
+
+// What is said of a repository of which something is over a limit.
+function overOf(one) {
+  const named = (one.named || []).slice(0, 3).map((file) => `${file.name}, ${file.why}`);
+  return ` ${one.repository}: ${counted(one.over, "file")} or more left out over a limit${named.length ? ` (${named.join("; ")}${one.over > named.length ? "; .." : ""})` : ""}.`;
 }
 
 function addRepositories(told, wanted) {
@@ -532,6 +657,7 @@ async function begin() {
     search();
   });
   at("form").addEventListener("submit", (event) => { event.preventDefault(); search(); });
+  at("file-jump").addEventListener("submit", (event) => { event.preventDefault(); jump(); });
   at("close").addEventListener("click", () => { closeFile(); history.pushState(null, "", addressOf(null)); });
   document.addEventListener("keydown", (event) => {
     if (event.key === "Escape" && shownFile) at("close").click();

@@ -6,28 +6,35 @@ The names of a repository's documents begin with its number, a colon, the revisi
 from __future__ import annotations
 
 import asyncio
-import collections
 import contextlib
 import dataclasses
 import functools
 import itertools
 import os
+import time
 import traceback
-from collections.abc import AsyncIterator, Callable, Sequence
+from collections.abc import Callable
 from dataclasses import dataclass
 from typing import TYPE_CHECKING, NamedTuple
 
 from .. import aio
 from ..answers import Answer, Published, Status
+from ..bounds import Bounds
 from ..errors import Ended, Error, SearchRefused
 from ..folder import text_body
-from ..git import FILE_KINDS, Store, is_glob
+from ..git import FILE_KINDS, NoRepository, Store, is_glob
 from ..history import History
 from ..names import quote, to_bytes
 from ..paths import check, under
 from ..query import Query, document_pattern
 from ..repository import git_folder
 from ..tgrep import ere
+from .apart import Apart
+from .commits import Commits
+from .limits import HOST, LeftOut, left_out_of
+from .reviews import Most, Reviews
+from .threads import Threads
+from .told import told_of
 
 if TYPE_CHECKING:
     from ..cluster import Cluster
@@ -35,12 +42,14 @@ if TYPE_CHECKING:
 # In seconds.
 _TO_PUBLISH = 5.0
 _TO_TELL = 1.0
+# So long a command of git may take, one for which a visitor waits, and one of a review.
+_TO_READ, _TO_ANSWER, _TO_COMPARE = 60.0, 5.0, 20.0
 # So long a repository rests after a fault that nobody has foreseen, and twice as long after each one more, up to the last.
 _FIRST_REST, _LONGEST_REST = 1.0, 60.0
 _LONGEST_FAULT = 4_000
 _UNFORESEEN = "a fault that was not foreseen; it is tried again"
-# So many reviews of a repository are open at a time.
-_MOST_REVIEWS = 4
+# What is served of a bare repository.
+HEAD = "HEAD"
 # Of so many publishes it is known of which commits they were.
 _MOST_COMMITS = 64
 
@@ -70,12 +79,22 @@ class Unread(Error):
 @dataclass(frozen=True)
 class Served:
     """What is served: a name, which has no colon; the folder; the revisions, as `tsearch.git.Revisions` takes them, or none for the files of
-    a working tree; and what leads on to a host's own pages: an address with `{commit}`, `{path}` and `{line}` in it."""
+    a working tree; and what leads on to a host's own pages: an address with `{commit}`, `{path}` and `{line}` in it.
+
+    keep_commits: whether files open at commits too that were served once, and are in no branch any more.
+    alternates: whether objects may be in folders outside the repository.
+    bounds: what is taken of it at most.
+    fault: why it cannot be served, if it cannot.
+    """
 
     name: str
     path: bytes
     revisions: tuple[str, ...] = ()
     link: str = ""
+    keep_commits: bool = False
+    alternates: bool = True
+    bounds: Bounds = HOST
+    fault: str = ""
 
     def called(self, name: str) -> Served:
         """The same with another name."""
@@ -96,12 +115,21 @@ class Shared:
     """The session of all repositories, or a cluster in its place. A program that has ended is started again with nothing in it, and each
     repository puts what it has."""
 
-    def __init__(self, session: aio.Session | Cluster, say: Callable[[str], None]) -> None:
+    def __init__(self, session: aio.Session | Cluster, say: Callable[[str], None], most: Most = Most()) -> None:
         self.session = session
         self.restarts = 0
+        self.apart = Apart()
         self.repositories: set[Repository] = set()
+        # what reads repositories, and what reads what visitors ask for
+        self.reading, self.viewing, self.reviewing = Threads(16, "reading"), Threads(3, "viewing"), Threads(2, "reviewing")
+        self.reviews = Reviews(session, most, self.reviewing.run)
         self._say = say
         self._numbers = itertools.count(1)
+
+    def end(self) -> None:
+        """Lets the threads end."""
+        for threads in self.reading, self.viewing, self.reviewing:
+            threads.end()
 
     def next_prefix(self) -> bytes:
         """What the names of another repository's documents begin with. It is not given again."""
@@ -146,13 +174,17 @@ class Repository:
         self.name = served.name
         self.shared = shared
         self.prefix = shared.next_prefix()
-        # what went wrong last, and is not mended
-        self.fault = ""
+        # what went wrong last, and is not mended: for visitors, and as it was said to who serves the page
+        self.fault = self._said = ""
         # how many files are loaded, and of how many
         self.progress = (0, 0)
         self.seconds = 0.0
+        # what is left out, as of the last look
+        self.left_out = LeftOut()
         self._hint = asyncio.Event()
         self._leaving = asyncio.Event()
+        # whether it has become another kind of repository: then nothing keeps it any more
+        self.has_turned = False
         self._rest = 0.0
         # the program that has all of it, and from which version on
         self._read: tuple[int, int] = (0, 0)
@@ -181,7 +213,8 @@ class Repository:
 
     def take(self, served: Served) -> bool:
         """Serves this from the next look on. False if that is another repository, or has other files."""
-        if served.path != self.served.path or bool(served.revisions) != bool(self.served.revisions):
+        is_other = served.path != self.served.path or bool(served.revisions) != bool(self.served.revisions) or served.bounds != self.served.bounds
+        if served.fault or is_other:
             return False
         self.served = served
         self.hint()
@@ -202,6 +235,7 @@ class Repository:
         try:
             while not self._leaving.is_set():
                 self._hint.clear()
+                began = time.monotonic()
                 try:
                     await self._look(say)
                     self._rest = 0.0
@@ -209,6 +243,11 @@ class Repository:
                     log(**unforeseen(self.name, error))
                     self._fail(say, Error(_UNFORESEEN), repr(error))
                     self._rest = min(2 * self._rest or _FIRST_REST, _LONGEST_REST)
+                if self.has_turned:
+                    return
+                # one that takes long leaves the threads to others for as long again
+                if not self._rest and self.fault and time.monotonic() - began > seconds:
+                    self._rest = min(time.monotonic() - began, _LONGEST_REST)
                 with contextlib.suppress(TimeoutError):
                     async with asyncio.timeout(self._rest or seconds):
                         await (self._leaving if self._rest else self._hint).wait()
@@ -228,12 +267,15 @@ class Repository:
     async def _look(self, say: Callable[[str], None]) -> None:
         try:
             refreshed = await self.kept.refresh()
+            if refreshed.published or refreshed.left_out:
+                self.left_out = await self.shared.reading.run(lambda: left_out_of(self.kept.left_out))
             self._begin(self.kept.life)
             if not refreshed.published:
                 self._looked(None)
+            self._need_kind()
             if self._read[0] != self.kept.life:
                 self._read = (self.kept.life, refreshed.published.version if refreshed.published else 0)
-            self.fault = ""
+            self.fault = self._said = ""
         except Ended as ended:
             try:
                 await self.shared.start_again(ended)
@@ -245,10 +287,10 @@ class Repository:
             self._fail(say, error)
 
     def _fail(self, say: Callable[[str], None], error: Exception, more: str = "") -> None:
-        """Says what is wrong, once for as long as it is. Only who serves the page is told more of it."""
-        if str(error) != self.fault:
+        """Says what is wrong, once for as long as it is. Only who serves the page is told more of it than `told_of` tells."""
+        if str(error) != self._said:
             say(f"{self.name}: {error}{f': {more[:_LONGEST_FAULT]}' if more else ''}")
-        self.fault = str(error)
+        self.fault, self._said = told_of(error), str(error)
         if self.kept.is_pending:
             # the publish of another one may show a part of it
             self._read = (0, 0)
@@ -269,6 +311,9 @@ class Repository:
 
     def _looked(self, published: Published | None) -> None:
         """Notes what a look has come to."""
+
+    def _need_kind(self) -> None:
+        """`NoRepository` if it is of another kind than it is served as."""
 
     async def _settled(self) -> None:
         """Waits for what a publish says that may have been carried out."""
@@ -319,8 +364,12 @@ class Files(Repository):
         self._changed: set[bytes] = set()
         self._start = self.prefix + b":"
         self._folder = aio.Folder(
-            shared.session, served.path, prefix=self._start, progress=self.has_progress, before_change=self._keep, published=self._note
-        )
+            shared.session, served.path, prefix=self._start, progress=self.has_progress, before_change=self._keep, published=self._note,
+            bounds=served.bounds,
+        )  # fmt: skip
+        self._folder.files.hide_git()
+        self._folder.in_parts = isinstance(shared.session, aio.Session)
+        self._folder.in_thread = shared.reading.run
 
     @property
     def kept(self) -> aio.Folder:
@@ -340,6 +389,14 @@ class Files(Repository):
     def _started(self) -> None:
         self._history, self._changed = History(), set()
 
+    def _need_kind(self) -> None:
+        if self._folder.files.is_of_git:
+            # what such a folder had before is not shown either
+            self._read, self._history, self._changed = (0, 0), History(), set()
+            self.has_turned = git_folder(self.served.path) == self.served.path
+            told = "it is a git repository without files of its own, and not whole"
+            raise NoRepository(f"{os.fsdecode(self.served.path)}: {told}", told)
+
     async def _keep(self, name: bytes) -> None:
         if name in self._changed:
             return
@@ -358,14 +415,18 @@ class Files(Repository):
             raise Gone("there are no revisions, but the files of a folder")
         return ""
 
-    async def view(self, path: bytes, life: int, version: int, lane: bytes) -> Answer:
-        """All lines of a file as it was at the version of an answer, asked for in the lane of a visitor. `Gone` if it has changed and is not
-        kept, or if the program was started again since; otherwise the errors of `Shared.find`."""
+    async def view(self, path: bytes, life: int, version: int, lane: bytes) -> Answer | bytes:
+        """All lines of a file as it was at the version of an answer, asked for in the lane of a visitor, or its text. `Gone` if it has changed and
+        is not kept, or if the program was started again since; otherwise the errors of `Shared.find`."""
         await self._settled()
         name, history = self._start + path, self._history
         if life == self._life:
             found = history.at(name, version)
             if found is None and history.is_current(name, version):
+                # mostly it is on the disk as it was, which is quicker than to ask for all lines
+                body = await self.shared.viewing.run(self._folder.files.unchanged, path)
+                if body is not None and life == self._life and history.is_current(name, version):
+                    return body
                 now = await self._whole(name, lane)
                 # a change may have come meanwhile, and then it is kept by now
                 found = history.at(name, version) or (now if now.life == life else None)
@@ -373,9 +434,14 @@ class Files(Repository):
                 return found
         raise Gone("the file has changed since this search")
 
-    async def now(self, path: bytes, lane: bytes) -> Answer:
-        """All lines of a file as it is, asked for in the lane of a visitor."""
-        return await self._whole(self._start + path, lane)
+    async def now(self, path: bytes, lane: bytes) -> tuple[Answer, bytes | None]:
+        """All lines of a file as it is, asked for in the lane of a visitor; or its text, and the version that it is of, without lines."""
+        name = self._start + path
+        head = await self.shared.find(Query(b"", names=(document_pattern(name),), names_only=True, lane=lane))
+        body = await self.shared.viewing.run(self._folder.files.unchanged, path)
+        if body is not None and head.count and head.life == self._life and self._history.is_current(name, head.version):
+            return head, body
+        return await self._whole(name, lane), None
 
 
 class Objects(Repository):
@@ -384,18 +450,23 @@ class Objects(Repository):
     def __init__(self, served: Served, shared: Shared) -> None:
         super().__init__(served, shared)
         self._revisions = aio.Revisions(
-            shared.session, served.path, served.revisions, prefix=self.prefix, progress=self.has_progress, published=self._note
-        )
+            shared.session, served.path, served.revisions, prefix=self.prefix, progress=self.has_progress, published=self._note,
+            bounds=served.bounds, in_parts=isinstance(shared.session, aio.Session),
+        )  # fmt: skip
+        self._revisions.in_thread = shared.reading.run
         self.store: Store = self._revisions.objects.store
+        self.store.seconds = _TO_READ
+        # the same, for what a visitor waits for
+        self.asked = Store(served.path)
+        self.asked.seconds = _TO_ANSWER
+        self.compared = Store(served.path)
+        self.compared.seconds = _TO_COMPARE
         # the commits from each version on
         self._commits: list[tuple[int, dict[str, str]]] = [(0, {})]
         # what is to be served and is not there, as it was said last
         self._missing: list[str] = []
-        # all that were served: a link to a line stays one
-        self._seen: set[str] = set()
-        # the last ones that were asked for, and how many searches there are in each
-        self._reviews: dict[tuple[str, str], asyncio.Task[aio.Review]] = {}
-        self._searched: collections.Counter[tuple[str, str]] = collections.Counter()
+        self._shown = Commits(self._revisions.objects, self.asked, shared.viewing.run)
+        self._take(served)
 
     @property
     def kept(self) -> aio.Revisions:
@@ -409,15 +480,23 @@ class Objects(Repository):
 
     @property
     def revisions(self) -> dict[str, str]:
-        """The commits of the revisions that are published."""
-        return self._commits[-1][1]
+        """The commits of the revisions that are published, without those that are gone since or no longer to be served."""
+        commits, named = self._commits[-1][1], self._shown.named
+        return commits if commits.keys() <= named.keys() else {name: commit for name, commit in commits.items() if name in named}
 
     def take(self, served: Served) -> bool:
-        """Serves this from the next look on. What is served stays until then."""
-        is_taken = super().take(served)
+        """Serves this from the next look on. What is served stays until then, and what is not is not from now on. False too if objects may be in
+        other folders no longer: what there is may be from there."""
+        is_taken = served.alternates >= self.served.alternates and super().take(served)
         if is_taken:
-            self._revisions.objects.wanted = served.revisions
+            self._take(served)
         return is_taken
+
+    def _take(self, served: Served) -> None:
+        self._revisions.objects.wanted = served.revisions
+        for store in self.store, self.asked, self.compared:
+            store.reader.may_have_alternates = served.alternates
+        self._shown.take(served.revisions, served.keep_commits)
 
     async def _look(self, say: Callable[[str], None]) -> None:
         await super()._look(say)
@@ -429,13 +508,11 @@ class Objects(Repository):
     async def leave(self, keeping: asyncio.Task[None]) -> None:
         """Ends the reviews too."""
         await super().leave(keeping)
-        for task in self._reviews.values():
-            task.add_done_callback(_close_review)
-        self._reviews.clear()
+        self.shared.reviews.leave(self.prefix)
 
     def _looked(self, published: Published | None) -> None:
         commits = dict(self._revisions.objects.commits)
-        self._seen.update(commits.values())
+        self._shown.note(commits.values())
         if published or commits != self._commits[-1][1]:
             # without a publish they have the same files
             version = published.version if published else self._commits[-1][0]
@@ -448,6 +525,8 @@ class Objects(Repository):
         commits = self.revisions
         revision = revision or next(iter(commits), "")
         if revision not in commits:
+            if self.fault and not commits:
+                raise Unread(self.fault)  # as of one that was removed piece by piece
             raise Gone(f"there is no revision {revision}" if revision else "there is no commit yet")
         return revision
 
@@ -455,73 +534,36 @@ class Objects(Repository):
         known = [found for first, found in self._commits if first <= version]
         return known[-1].get(revision, "") if known else ""
 
-    async def _is_served(self, commit: str) -> bool:
-        """Whether a commit was served, or leads to one that is."""
-        if commit in self._seen:
-            return True
-        if len(commit) not in (40, 64) or not commit.isalnum():
-            return False
-        is_before = await asyncio.to_thread(self.store.is_before, commit, list(self.revisions.values()))
-        if is_before:
-            self._seen.add(commit)
-        return is_before
-
-    async def at(self, commit: str, path: bytes) -> bytes:
-        """The text of a file of a commit. `Gone` if there is no such file, or it has none, or the commit is none that is served."""
-        if not await self._is_served(commit):
+    async def check_served(self, commit: str) -> None:
+        """`Gone` if a commit is none that is served, or no longer."""
+        if self.fault and not self.revisions:
+            raise Unread(self.fault)
+        if not await self._shown.may_be_shown(commit):
             raise Gone("this commit is not, or no longer, served")
-        body = await asyncio.to_thread(self._text, commit, path)
+
+    def text(self, commit: str, path: bytes) -> bytes:
+        """The text of a file of a commit, read now. `Gone` if there is no such file, or it has none, or is longer than a file may be."""
+        entry = self.asked.entry(commit, path)
+        if entry is None or entry.kind not in FILE_KINDS:
+            raise Gone("there is no such file")
+        bounds = self.served.bounds
+        found = dict(self.asked.bodies([entry.object], lambda number, size: bounds.over_size(size)))[entry.object]
+        body = text_body(found) if isinstance(found, bytes) else found
         if isinstance(body, str):
             raise Gone(f"it cannot be shown as text: {body}")
         return body
 
-    def _text(self, commit: str, path: bytes) -> bytes | str:
-        entry = self.store.entry(commit, path)
-        if entry is None or entry.kind not in FILE_KINDS:
-            raise Gone("there is no such file")
-        found = dict(self.store.bodies([entry.object]))[entry.object]
-        return text_body(found) if isinstance(found, bytes) else found
-
     async def commit(self, name: str) -> str:
         """The commit of a revision that is served, or of what leads to one. `Gone` if there is none, and for a name with a pattern, with which
         git would look through all messages."""
-        found = self.revisions.get(name) or (await asyncio.to_thread(self.store.commits, [name]) if not set(name) & set("*?[{") else {}).get(name, "")
-        if not found or not await self._is_served(found):
+        found = self._shown.named.get(name) or (await self.shared.viewing.run(self.asked.commits, [name]) if not set(name) & set("*?[{") else {}).get(name, "")
+        if not found or not await self._shown.may_be_shown(found):
             raise Gone(f"{name} is not a commit that is served")
         return found
 
-    @contextlib.asynccontextmanager
-    async def review(self, before: str, after: str) -> AsyncIterator[aio.Review]:
-        """The review of a patch between two commits, for as long as the block lasts. The last ones are kept."""
-        pair = (before, after)
-        task = self._reviews.pop(pair, None) or asyncio.create_task(aio.Review.open(self.shared.session, self.store.path, before, after))
-        self._reviews[pair] = task
-        self._searched[pair] += 1
-        try:
-            yield await asyncio.shield(task)
-        finally:
-            self._searched[pair] -= 1
-            has_failed = task.done() and (task.cancelled() or task.exception() is not None)
-            old = [one for one in self._reviews if not self._searched[one]][: max(len(self._reviews) - _MOST_REVIEWS, 0)]
-            for one in [pair] * has_failed + old:
-                if closed := self._reviews.pop(one, None):
-                    closed.add_done_callback(_close_review)
-            self._searched += collections.Counter()  # those of none go
-
-
-_closing: set[asyncio.Task[None]] = set()
-
-
-def _close_review(task: asyncio.Task[aio.Review]) -> None:
-    if not task.cancelled() and not task.exception():
-        closing = asyncio.ensure_future(_closed(task.result()))
-        _closing.add(closing)
-        closing.add_done_callback(_closing.discard)
-
-
-async def _closed(review: aio.Review) -> None:
-    with contextlib.suppress(Error):
-        await review.close()
+    def review(self, before: str, after: str, visitor: str = "") -> contextlib.AbstractAsyncContextManager[aio.Review]:
+        """The review of a patch between two commits, for a search of a visitor. The errors are those of `Reviews.opened`."""
+        return self.shared.reviews.opened(self.prefix, self.compared, self.served.bounds, before, after, visitor)
 
 
 def seeing(own: Filter) -> Callable[[bytes], bool]:
@@ -547,18 +589,3 @@ def unforeseen(repository: str, error: BaseException) -> dict[str, str]:
 def repository_of(served: Served, shared: Shared) -> Repository:
     """The repository for what is served. `NoRepository` if revisions are asked for and there is none."""
     return Objects(served, shared) if served.revisions else Files(served, shared)
-
-
-def served_of(roots: Sequence[str], revisions: Sequence[str] = (), link: str = "") -> list[Served]:
-    """What is served of each folder: these revisions, or its files; HEAD of a repository that has no files. Each is called by the last part
-    of its path, without `.git`; of two with the same name the second has a number."""
-    found: dict[str, Served] = {}
-    for root in roots:
-        path = os.path.abspath(to_bytes(root))
-        base = os.path.basename(path).decode(errors="replace").removesuffix(".git").replace(":", "-") or "-"
-        name, number = base, 2
-        while name in found:
-            name, number = f"{base}-{number}", number + 1
-        is_bare = git_folder(path) == path
-        found[name] = Served(name, path, tuple(revisions) or (("HEAD",) if is_bare else ()), link)
-    return list(found.values())

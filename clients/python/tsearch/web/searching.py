@@ -18,6 +18,7 @@ from ..merging import parted
 from ..names import quote, to_bytes
 from ..paths import check, under
 from ..query import MAX_PREFIXES, Query
+from .apart import most_of
 from .marks import marks_of
 from .repositories import Filter, Found, Repository, Shared
 
@@ -25,6 +26,12 @@ from .repositories import Filter, Found, Repository, Shared
 GRACE = 1.0
 # So many searches for one repository each are at work for a visitor at a time.
 _AT_ONCE = 4
+# What part of the time of a search one of several repositories has, if it is asked by itself.
+_SHARE = 4
+# So often in that time it is seen whether it is over.
+_LOOKS = 8
+# In seconds: one that is asked apart has so long at least, and otherwise as long as the others take.
+_LEAST_SHARE = 0.5
 _ANY_START = b"[^:]*:[^:]*:"
 _COUNT = re.compile(rb"^(\d+:[^:\0\n]*:)[^\0\n]*\0(\d+)$", re.MULTILINE)
 
@@ -42,12 +49,20 @@ class _Part(NamedTuple):
     quoted: bytes
 
 
+class Late(TooSlow):
+    """A repository has no answer in its share of the time: the others need not wait for it, and it can be asked by itself."""
+
+    def __init__(self) -> None:
+        super().__init__("too slow")
+
+
 class Search:
     """A search of a visitor in some repositories, each with the filter of the host.
 
     query: without patterns of names it is for all files; those that it has are for paths.
     search_ms: the time of the search, in milliseconds. If one search over all of them has no answer in half of it, or too long a one, each is
-        asked by itself, the smallest first, and those that then have none are too slow.
+        asked by itself, the smallest first, and has a quarter of it: few that have no answer then are `Late`. One that was so lately is asked
+        apart from the others, and has as long as they take.
     most_bytes: so long all answers together are of those that are asked by themselves. One that would be longer with others before it is too
         long.
     """
@@ -59,7 +74,14 @@ class Search:
         self._outcomes: list[Found | int | Error | None] = [None] * len(chosen)
         self._left = most_bytes
         now = asyncio.get_running_loop().time()
-        self._half, self._end = now + search_ms / 2_000, now + search_ms / 1_000 + GRACE
+        self._began, self._half, self._end = now, now + search_ms / 2_000, now + search_ms / 1_000 + GRACE
+        self._share = (search_ms / 1_000 + GRACE) / _SHARE
+        # how many are asked; since when those work, by their places, that have had their share and go on; those that were given up then; and how
+        # long the slowest of the others took
+        self._count = 0
+        self._overdue: dict[int, float] = {}
+        self._late: list[Repository] = []
+        self._slowest = 0.0
         self._turns = asyncio.Semaphore(_AT_ONCE)
         self._groups: dict[Filter, list[_Part]] = collections.defaultdict(list)
         for at, (repository, own) in enumerate(chosen):
@@ -80,11 +102,33 @@ class Search:
         await self._each(self._count_together, self._count_alone)
         return [outcome for outcome in self._outcomes if isinstance(outcome, (int, Error))]
 
-    async def _each(self, together: _Together, alone: Callable[[Query, _Part], Awaitable[None]]) -> None:
-        await _all([self._group(own, parts, together, alone) for own, parts in self._groups.items()])
+    async def _each(self, together: _Together, alone: _Alone) -> None:
+        """Asks all. Those that were slow lately are asked by themselves meanwhile, and have as long as the others take, or a little more."""
+        parts = [part for some in self._groups.values() for part in some]
+        self._count = len(parts)
+        slow = self._shared.apart.of([part.repository for part in parts])
+        apart = asyncio.create_task(self._all_groups(lambda part: part.repository in slow, None, alone)) if slow else None
+        try:
+            await self._all_groups(lambda part: part.repository not in slow, together, alone)
+            if self._slowest < self._share / 2:
+                self._shared.apart.note(_large(self._late, [part.repository for part in parts]), len(parts))
+            if apart:
+                least = self._began + min(_LEAST_SHARE, self._share)
+                await asyncio.wait([apart], timeout=max(0.0, least - asyncio.get_running_loop().time()))
+        finally:
+            if apart:
+                apart.cancel()
+                await asyncio.wait([apart])
+        for part in parts:
+            if self._outcomes[part.at] is None:
+                self._outcomes[part.at] = Late()
 
-    async def _group(self, own: Filter, parts: list[_Part], together: _Together, alone: Callable[[Query, _Part], Awaitable[None]]) -> None:
-        """Asks those that have one filter."""
+    async def _all_groups(self, has: Callable[[_Part], bool], together: _Together | None, alone: _Alone) -> None:
+        groups = [(own, [part for part in parts if has(part)]) for own, parts in self._groups.items()]
+        await _all([self._group(own, parts, together, alone) for own, parts in groups if parts])
+
+    async def _group(self, own: Filter, parts: list[_Part], together: _Together | None, alone: _Alone) -> None:
+        """Asks those that have one filter, each by itself if there is no way to ask all together."""
         try:
             query = await self._checked(own)
         except (Error, TimeoutError) as fault:
@@ -93,8 +137,11 @@ class Search:
             return
         left = []
         for some in _fitting(query, parts):
-            left += await self._together(query, some, together) if len(some) > 1 else some
-        await _all([self._alone(query, part, alone) for part in sorted(left, key=lambda part: part.repository.kept.totals)])
+            left += await self._together(query, some, together) if together and len(some) > 1 else some
+        if len(left) == 1 == self._count:
+            await self._alone(query, left[0], alone)  # which costs no task
+        elif left:
+            await self._each_alone(query, left, alone)
 
     async def _checked(self, own: Filter) -> Query:
         """The query with what the visitor and the host say of paths. `PatternRefused` with the number among all their patterns."""
@@ -120,16 +167,56 @@ class Search:
                 self._outcomes[part.at] = fault
             return []
 
-    async def _alone(self, query: Query, part: _Part, ask: Callable[[Query, _Part], Awaitable[None]]) -> None:
-        """Asks one."""
-        began = time.monotonic()
+    async def _each_alone(self, query: Query, parts: list[_Part], alone: _Alone) -> None:
+        """Asks each by itself, the smallest first. Few that have had their share of the time are given up once no other one is left; where many
+        have, all is slow, and all of the time is theirs."""
+        parts = sorted(parts, key=lambda part: part.repository.kept.totals)
+        tasks = {asyncio.create_task(self._alone(query, part, alone)): part for part in parts}
+        left = set(tasks)
         try:
-            async with asyncio.timeout_at(self._end), self._turns:
-                await ask(query, part)
+            while left:
+                _, left = await asyncio.wait(left, timeout=self._share / _LOOKS, return_when=asyncio.FIRST_COMPLETED)
+                if self._are_few([tasks[task] for task in left]):
+                    self._late += [tasks[task].repository for task in left]
+                    break
+        finally:
+            for task in left:
+                task.cancel()
+            await asyncio.wait(tasks)
+        for task in tasks:
+            if not task.cancelled():
+                task.result()
+
+    def _are_few(self, left: list[_Part]) -> bool:
+        """Whether those that are left are few, have had their share, and twice as long as any other one took."""
+        now = asyncio.get_running_loop().time()
+        slow = [part for part in left if now - self._overdue.get(part.at, now) > max(self._share, 2 * self._slowest)]
+        return len(slow) == len(left) and len(self._overdue) <= most_of(self._count)
+
+    async def _alone(self, query: Query, part: _Part, ask: _Alone) -> None:
+        """Asks one, in its turn, which it has for its share of the time."""
+        loop, began = asyncio.get_running_loop(), time.monotonic()
+        try:
+            async with asyncio.timeout_at(self._end):
+                await self._turns.acquire()
+                at_work = loop.time()
+                over = loop.call_later(self._share, self._is_over, part, at_work)
+                try:
+                    await ask(query, part)
+                    self._slowest = max(self._slowest, loop.time() - at_work)
+                finally:
+                    if self._overdue.pop(part.at, None) is None:
+                        over.cancel()
+                        self._turns.release()
         except (Error, TimeoutError) as fault:
-            self._outcomes[part.at] = _error_of(fault)
+            self._outcomes[part.at] = fault if isinstance(fault, Error) else TooSlow("too slow") if self._count == 1 else Late()
         finally:
             part.repository.seconds += time.monotonic() - began
+
+    def _is_over(self, part: _Part, at_work: float) -> None:
+        """One has had its share. Others have its turn, and it goes on."""
+        self._overdue[part.at] = at_work
+        self._turns.release()
 
     async def _ask(self, query: Query, parts: Sequence[_Part]) -> Answer:
         sent = _in(query, parts)
@@ -182,6 +269,7 @@ class Search:
 
 
 _Together = Callable[[Query, list[_Part]], Awaitable[list[_Part]]]
+_Alone = Callable[[Query, _Part], Awaitable[None]]
 
 
 async def _all(calls: Sequence[Coroutine[Any, Any, None]]) -> None:
@@ -192,6 +280,12 @@ async def _all(calls: Sequence[Coroutine[Any, Any, None]]) -> None:
     async with asyncio.TaskGroup() as tasks:
         for call in calls:
             tasks.create_task(call)
+
+
+def _large(late: Sequence[Repository], asked: Sequence[Repository]) -> list[Repository]:
+    """Those that were late and have as much text as the others on average, or more: a smaller one has waited for what others ask for."""
+    of_all = sum(one.kept.totals[1] for one in asked)
+    return [one for one in late if one.kept.totals[1] * len(asked) >= of_all]
 
 
 def _is_too_long(fault: Error) -> bool:

@@ -21,19 +21,25 @@ from .. import aio
 from ..answers import Answer
 from ..errors import Cancelled, Ended, Error, OptionRefused, PatternRefused, SearchRefused, TooSlow
 from ..merging import cut
-from ..names import to_bytes, unquote
+from ..names import to_bytes
 from ..query import Options, Query
 from ..review import Found as Reviewed
 from ..review import Line
 from ..shortening import LONGEST, shortened
-from ..watching import hints
+from .absent import Absent
+from .connections import Connections
+from .hinting import Hinting
 from .marks import marks_of
-from .measures import Histogram, Log, Metrics, memory_of
-from .repositories import Files, Filter, Found, Gone, Objects, Repository, Served, Shared, Unread, repository_of, seeing, unforeseen
+from .measures import Counted, Histogram, Log, Metrics, length_of, memory_of
+from .repositories import HEAD, Filter, Found, Gone, Objects, Repository, Served, Shared, Unread, repository_of, seeing, unforeseen
+from .reviews import NotOpen
 from .rows import BLOCK, blocks_of, id_of
-from .searching import GRACE, Search
-from .settings import Limits, Settings, read_served
-from .visitors import TooMany, Visitors
+from .searching import GRACE, Late, Search
+from .settings import Limits, Settings, read_told, served_in
+from .told import told_of
+from .turns import TooMany, networks_of, wide_of
+from .views import Texts, Wanted, view, written
+from .visitors import Visitors, refused_for_now
 
 _LINES = "application/x-ndjson"
 _HEADERS = {
@@ -57,6 +63,8 @@ _WRITTEN = 1 << 18
 _LARGE = 1 << 20
 _MOST_READERS = 16
 _LONGEST_LANE = 64
+# In seconds: what is absent is looked for so often at most.
+_LEAST_LOOK = 1.0
 # How often it is seen whether a visitor has gone, in seconds.
 _OFTEN = 0.2
 # The name of a repository, the filter of the host, and what it answers or with what it fails.
@@ -130,21 +138,30 @@ def _words_of(request: web.Request) -> dict[str, list[str]]:
 
 
 class _Kept:
-    """A repository that is served, the task that keeps it, and what ends the hints."""
+    """A repository that is served, the task that keeps it, and that which gets hints."""
 
-    def __init__(self, repository: Repository, task: asyncio.Task[None], stack: contextlib.ExitStack) -> None:
+    def __init__(self, repository: Repository, task: asyncio.Task[None], hinting: Hinting) -> None:
         self.repository = repository
+        # what the settings say of it: of a folder that has become a bare repository it is still the folder
+        self.entry = repository.served
         self.task = task
-        self.stack = stack
+        self.hinting = hinting
+
+    def take(self, served: Served) -> bool:
+        """Serves this from the next look on. False if that is another repository."""
+        is_taken = self.repository.take(served)
+        if is_taken:
+            self.entry = served
+        return is_taken
 
     async def leave(self) -> None:
         """Ends all of it, and removes its documents."""
-        await asyncio.to_thread(self.stack.close)
+        await self.hinting.end()
         await self.repository.leave(self.task)
 
     async def end(self) -> None:
         """Ends all of it at once, before the session."""
-        self.stack.close()
+        await self.hinting.end()
         await _end_task(self.task)
 
 
@@ -155,6 +172,10 @@ class Server:
         self._settings = settings
         self._say = say
         self._kept: dict[str, _Kept] = {}
+        # what the file of settings had when it was read last; why what is absent was so, as it was said last; and why there are no hints
+        self._told: dict[str, Any] | None = None
+        self._absent: dict[str, str] = {}
+        self._unwatched: set[str] = set()
         self._changing = asyncio.Lock()
         # of repositories that are served no longer
         self._leaving: set[asyncio.Task[None]] = set()
@@ -163,8 +184,10 @@ class Server:
         self._running: dict[str, tuple[int, asyncio.Task[web.StreamResponse]]] = {}
         # the answers that are made, each with who asked
         self._asked: dict[asyncio.Task[web.StreamResponse], web.Request] = {}
-        self._turns = asyncio.Semaphore(settings.limits.searches)
-        self._visitors = Visitors(settings.proxies)
+        # how many there are is told, if they are counted
+        self.connections: Connections | None = None
+        self.visitors = Visitors(settings.proxies, settings.networks, settings.limits.searches)
+        self._texts = Texts()
         self._outcomes: collections.Counter[str] = collections.Counter()
         self._seconds = Histogram()
         self._log = Log(settings.log)
@@ -191,11 +214,16 @@ class Server:
         """Starts the session, keeps the repositories in it, and ends it."""
         async with contextlib.AsyncExitStack() as stack:
             session = await self._session(stack)
-            self._shared = Shared(session, self._say)
+            self._shared = Shared(session, self._say, self._settings.limits.reviews)
+            stack.callback(self._shared.end)
             stack.push_async_callback(session.close, 2.0)
             stack.push_async_callback(self._end)
             stack.push_async_callback(_end_task, asyncio.create_task(self._watch()))
+            if self._settings.file is not None:
+                self._told = await asyncio.to_thread(read_told, self._settings.file)
+                self.visitors.turns.networks = networks_of(self._told, self._settings.networks, self._settings.file)
             await self._serve(self._settings.served)
+            stack.push_async_callback(_end_task, asyncio.create_task(self._look_for_absent()))
             yield
 
     async def _session(self, stack: contextlib.AsyncExitStack) -> Any:
@@ -235,9 +263,29 @@ class Server:
         if self._settings.file is None:
             return
         try:
-            await self._serve(await asyncio.to_thread(read_served, self._settings.file))
+            told = await asyncio.to_thread(read_told, self._settings.file)
+            networks = networks_of(told, self._settings.networks, self._settings.file)
         except Error as error:
             self._say(f"the settings stay as they were: {error}")
+            return
+        self._told, self.visitors.turns.networks = told, networks
+        await self._serve(await asyncio.to_thread(self._wanted))
+
+    async def _look_for_absent(self) -> None:
+        """Serves what cannot be served once it can."""
+        while True:
+            await asyncio.sleep(max(self._settings.look, _LEAST_LOOK))
+            if any(isinstance(one, Absent) for one in self._repositories):
+                wanted = await asyncio.to_thread(self._wanted)
+                if any(isinstance(one, Absent) and one.served not in wanted for one in self._repositories):
+                    await self._serve(wanted)
+
+    def _wanted(self) -> tuple[Served, ...]:
+        """What the settings name, as far as it can be served now."""
+        if self._settings.file is None or self._told is None:
+            return self._settings.served
+        settings = self._settings
+        return served_in(self._told, settings.file, settings.bounds, keep_commits=settings.keep_commits, alternates=settings.alternates)
 
     async def _serve(self, wanted: tuple[Served, ...]) -> None:
         """Serves these repositories, and no others."""
@@ -245,28 +293,60 @@ class Server:
             now = {served.name: served for served in wanted}
             for name, kept in list(self._kept.items()):
                 served = now.get(name)
-                if served is None or (served != kept.repository.served and not kept.repository.take(served)):
+                if served is not None and self._goes_on(served, kept.repository):
+                    continue
+                if served is None or (served != kept.entry and not kept.take(served)):
                     self._leave(self._kept.pop(name))
             for name, served in now.items():
                 if name not in self._kept:
                     self._add(served)
             self._kept = {name: self._kept[name] for name in now if name in self._kept}
+            self._absent = {name: self._absent[name] for name in now if name in self._absent}
+            if not now and self._settings.file is not None:
+                self._say(f"{self._settings.file} names no repository, so nothing is served")
             needed, there = await self._workers()
             if needed > there:
                 self._say(f"{needed} workers are needed for {needed} shards, and there are {there}")
 
+    def _goes_on(self, served: Served, repository: Repository) -> bool:
+        """Whether what is served goes on though its entry has a fault by now, as while its disk is away."""
+        if not served.fault or isinstance(repository, Absent) or os.path.abspath(served.path) != repository.served.path:
+            return False
+        if self._absent.get(served.name) != served.fault:
+            self._say(f"{served.name} goes on as it was: {served.fault}")
+        self._absent[served.name] = served.fault
+        return True
+
     def _add(self, served: Served) -> None:
         try:
-            repository = repository_of(served, self._shared)
+            repository = Absent(served, self._shared) if served.fault else repository_of(served, self._shared)
         except Error as error:
-            self._say(f"{served.name}: {error}")
+            repository = Absent(dataclasses.replace(served, fault=str(error)), self._shared)
+        if isinstance(repository, Absent) and repository.served.fault != self._absent.get(served.name):
+            self._say(f"{served.name} is left out: {repository.served.fault}")
+        self._absent |= {served.name: repository.served.fault}
+        task = asyncio.create_task(self._keep(repository))
+        self._kept[served.name] = _Kept(repository, task, Hinting(repository, self._say_unwatched))
+
+    def _say_unwatched(self, repository: Repository, fault: str) -> None:
+        """Says, once for each reason, that a repository gives no hints; `api/status` says it of each."""
+        if fault not in self._unwatched:
+            self._unwatched.add(fault)
+            self._say(f"{repository.name}: changes are seen late, by a look every {self._settings.look:g} seconds, as of all that api/status names: {fault}")
+
+    async def _keep(self, repository: Repository) -> None:
+        """Keeps a repository in the session. Of a folder that has become a bare repository HEAD is served from then on."""
+        await repository.keep(self._settings.look, self._say, self._log.write)
+        if not repository.has_turned:
             return
-        task = asyncio.create_task(repository.keep(self._settings.look, self._say, self._log.write))
-        loop = asyncio.get_running_loop()
-        changed = lambda: loop.call_soon_threadsafe(repository.hint)  # noqa: E731
-        with contextlib.ExitStack() as stack:
-            stack.enter_context(hints(repository.roots, changed, of_git=bool(served.revisions)))
-            self._kept[served.name] = _Kept(repository, task, stack.pop_all())
+        async with self._changing:
+            name, order = repository.name, list(self._kept)
+            if name in self._kept and self._kept[name].repository is repository:
+                self._leave(self._kept.pop(name))
+                self._add(dataclasses.replace(repository.served, revisions=(HEAD,)))
+                if not isinstance(self._kept[name].repository, Absent):  # otherwise it is whole no longer, and is looked for
+                    self._kept[name].entry = repository.served
+                self._kept = {one: self._kept[one] for one in order if one in self._kept}
 
     def _leave(self, kept: _Kept) -> None:
         task = asyncio.create_task(kept.leave())
@@ -305,13 +385,13 @@ class Server:
     async def _logged(self, request: web.Request, handler: Callable[[web.Request], Awaitable[web.StreamResponse]]) -> web.StreamResponse:
         """Writes a line of the log for each request, and notes who asks."""
         began, status, length = time.monotonic(), 0, 0
-        request["address"] = self._visitors.address_of(request)
+        request["address"] = self.visitors.address_of(request)
         try:
             response = await handler(request)
-            status, length = response.status, response.body_length
+            status, length = response.status, length_of(request, response)
             return response
         except web.HTTPException as fault:
-            status = fault.status
+            status, length = fault.status, length_of(request, fault)
             raise
         finally:
             seconds = time.monotonic() - began
@@ -365,9 +445,9 @@ class Server:
             if "begun" in request or _has_left(request) or (own and own.cancelling()):
                 raise
             return _lines_of({"refused": "cancelled"}, status=409)
-        except TooMany:
+        except TooMany as many:
             self._outcomes["too many"] += 1
-            return _lines_of({"refused": "too many searches at a time"}, status=429)
+            return refused_for_now(many)
         except ConnectionResetError:
             self._outcomes["left"] += 1
             raise asyncio.CancelledError from None  # which aiohttp takes as what it is
@@ -401,7 +481,7 @@ class Server:
         chosen = [(found, own) for found, own in self._seen_by(request) if not asked.repositories or found.name in asked.repositories]
         strange = sorted(asked.repositories - {found.name for found, _ in chosen})
         query = dataclasses.replace(asked.query, lane=_lane_of(request))
-        async with self._visitors.turn(_address_of(request)), self._turns:
+        async with self.visitors.turn(_address_of(request)):
             limits = self._settings.limits
             outcomes = await made(Search(self._shared, chosen, query, asked.revision, limits.search_ms, limits.answer))
         told = [(repository.name, own, outcome) for (repository, own), outcome in zip(chosen, outcomes, strict=True)]
@@ -443,7 +523,8 @@ class Server:
         """What is said of a repository that gives no answer."""
         match fault:
             case TooSlow() | Cancelled():
-                return "too slow", {"fault": fault.reason, "milliseconds": self._settings.limits.search_ms}
+                alone = {"alone": True} if isinstance(fault, Late) else {"milliseconds": self._settings.limits.search_ms}
+                return "too slow", {"fault": fault.reason, **alone}
             case SearchRefused():
                 return "refused", {"fault": fault.reason}
             case Gone():
@@ -453,12 +534,12 @@ class Server:
             case Ended():
                 return "ended", {"fault": "the program starts again", "again": True}
             case Error():  # as of a shard that is lost
-                return "ended", {"fault": str(fault), "again": True}
+                return "ended", {"fault": told_of(fault), "again": True}
         raise fault
 
     async def _write(self, request: web.Request, asked: Asked, outcomes: list[_Outcome], began: float) -> web.StreamResponse:
         """Writes the answers, a line for each repository and for each document with its hits, and one at the end."""
-        response = web.StreamResponse(headers={"Content-Type": _LINES})
+        response = Counted(headers={"Content-Type": _LINES})
         request["begun"] = True
         await response.prepare(request)
         counts = [found.answer.count if isinstance(found, Found) else 0 for _, _, found in outcomes]
@@ -504,23 +585,46 @@ class Server:
             return self._refusal(gone)
         if not isinstance(repository, Objects):
             return self._refusal(Gone("there are no revisions of it"))
-        async with self._visitors.turn(_address_of(request)), self._turns:
-            try:
-                async with asyncio.timeout(self._settings.limits.search_ms / 1_000 + GRACE):
-                    found, commits = await _reviewed(repository, asked, words, own, _lane_of(request))
-            except TimeoutError:
-                return self._refusal(TooSlow("too slow"), asked)
-            except Error as fault:
-                return self._refusal(fault, asked, own)
+        try:
+            found, commits = await self._reviewed(request, repository, asked, words, own)
+        except NotOpen as fault:
+            self._outcomes["too slow"] += 1
+            return _lines_of({"refused": fault.reason}, status=503, more={"Retry-After": str(fault.seconds)})
+        except TimeoutError:
+            return self._refusal(TooSlow("too slow"), asked)
+        except Error as fault:
+            return self._refusal(fault, asked, own)
         self._seconds.add(time.monotonic() - began)
         self._outcomes["answered"] += 1
         body = _json({"repository": repository.name, **commits})
         for file in found.files:
             sides = {side: {"name": _shown(path), "id": id_of(path)} for side, path in (("before", file.before), ("after", file.after)) if path is not None}
-            body += _json({**sides, "hits": [_review_row(line, asked.is_whole) for line in file.lines]})
+            coarse = {"coarse": True} if file.is_coarse else {}
+            body += _json({**sides, **coarse, "hits": [_review_row(line, asked.is_whole) for line in file.lines]})
         counts = {word: found.count(sign) for word, sign in (("removed", "-"), ("added", "+"), ("left", " "))}
         body += _json({**counts, "more": found.more, "seconds": round(time.monotonic() - began, 4)})
-        return web.Response(body=body, headers={"Content-Type": _LINES})
+        return await written(request, body, _LINES)
+
+    async def _reviewed(
+        self, request: web.Request, repository: Objects, asked: Asked, words: dict[str, str], own: Filter
+    ) -> tuple[Reviewed, dict[str, object]]:
+        """What a search in a review finds, and its commits. While it is opened, the turn of the visitor is free for a search."""
+        limits, address = self._settings.limits, _address_of(request)
+        seconds = limits.search_ms / 1_000 + GRACE
+        async with self.visitors.turn(address), asyncio.timeout(seconds):
+            commits = [await repository.commit(words.get(side, "")) for side in ("before", "after")]
+        query = asked.query
+        options = Options(
+            ignore_case=query.ignore_case, literal=query.literal, whole_words=query.whole_words, whole_lines=query.whole_lines, invert=query.invert,
+            names=(*query.names, *map(to_bytes, own.names)), not_names=(*query.not_names, *map(to_bytes, own.not_names)), limit=query.limit,
+            under=own.under, not_under=own.not_under, lane=_lane_of(request),
+        )  # fmt: skip
+        async with repository.review(commits[0], commits[1], address) as review:
+            async with self.visitors.turn(address), asyncio.timeout(seconds):
+                for commit in commits:
+                    await repository.check_served(commit)  # it may have gone while the review was opened
+                found = await review.find(query.pattern, sees=seeing(own) if any(own) else None, **options)
+            return found, {"before": commits[0], "after": commits[1], "left_out": len(review.patch.left_out)}
 
     def _one(self, request: web.Request, name: str) -> tuple[Repository, Filter]:
         """The repository of a name, if it may be seen: `Gone` if there is none."""
@@ -536,9 +640,13 @@ class Server:
 
     # Files, what is served, and measurements.
 
-    async def _view(self, request: web.Request) -> web.Response:
+    async def _view(self, request: web.Request) -> web.StreamResponse:
         words = {key: found[-1] for key, found in _words_of(request).items()}
         numbers = [words.get(key, "") for key in ("life", "version")]
+        try:
+            Wanted.of(words)
+        except ValueError:
+            raise web.HTTPBadRequest(text="from and to are numbers of lines") from None
         if not words.get("name") or any(numbers) and not all(map(_is_number, numbers)):
             raise web.HTTPBadRequest(text="give the repository and the name, and where they are known the commit, or the life and the version")
         try:
@@ -547,38 +655,40 @@ class Server:
             return self._refusal(gone)
         name = to_bytes(words["name"])
         try:
-            async with self._visitors.turn(_address_of(request)), self._turns, asyncio.timeout(self._settings.limits.search_ms / 1_000 + GRACE):
+            async with self.visitors.turn(_address_of(request)), asyncio.timeout(self._settings.limits.search_ms / 1_000 + GRACE):
                 if not await repository.admits(own, name, _lane_of(request)):
                     raise Gone("there is no such file")
-                lines, place = await _lines_at(repository, name, words, _lane_of(request))
+                shown = await view(repository, name, words, _lane_of(request), self._texts)
         except Gone as gone:
             return web.json_response({"refused": str(gone)}, status=410)
-        except TooMany:
-            return web.json_response({"refused": "too many searches at a time"}, status=429)
+        except TooMany as many:
+            return refused_for_now(many)
         except TimeoutError:
             return self._refusal(TooSlow("too slow"))
         except Error as fault:
             return self._refusal(fault)
-        if not lines:
+        if shown is None:
             return web.json_response({"refused": "there is no such file, or it is empty"}, status=404)
-        is_whole = "whole" in words
-        is_cut = not is_whole and any(len(line) > LONGEST for line in lines)
-        shown = [_shown(line if is_whole else shortened(line, ())[0]) for line in lines]
-        told: dict[str, object] = {"repository": repository.name, "name": _shown(name), "id": id_of(name), "lines": shown, **place}
-        return web.json_response({**told, **({"cut": True} if is_cut else {})})
+        return await written(request, shown)
 
     async def _status(self, request: web.Request) -> web.Response:
         told = []
-        for repository, _ in self._seen_by(request):
-            left_out = repository.kept.left_out
-            one: dict[str, object] = {"repository": repository.name, "loaded": repository.is_loaded, "left_out": len(left_out)}
-            one["left_out_for"] = dict(collections.Counter(left_out.values()))
+        for repository, own in self._seen_by(request):
+            left_out = repository.left_out
+            one: dict[str, object] = {"repository": repository.name, "loaded": repository.is_loaded, "left_out": sum(left_out.counts.values())}
+            one["left_out_for"] = left_out.counts
+            if left_out.over:
+                one["over"] = left_out.over
+                if not any(own):
+                    one["named"] = [{"name": _shown(name), "why": why} for name, why in left_out.names]
             one["revisions"] = [{"name": name, "commit": commit} for name, commit in repository.revisions.items() if name]
             one["documents"], one["bytes"] = repository.kept.totals
             if repository.served.link:
                 one["link"] = repository.served.link
             if repository.fault:
                 one["fault"] = repository.fault
+            if repository.name in self._kept and (unwatched := self._kept[repository.name].hinting.fault):
+                one["no_hints"] = unwatched
             if not repository.is_loaded:
                 one["done"], one["of"] = repository.progress
             told.append(one)
@@ -625,11 +735,14 @@ class Server:
             rows.add("tsearch_documents", "gauge", "Documents of the repository.", documents, label)
             rows.add("tsearch_document_bytes", "gauge", "Bytes of their files.", size, label)
             rows.add("tsearch_loaded", "gauge", "Whether all of it is loaded.", int(repository.is_loaded), label)
-            rows.add("tsearch_left_out_files", "gauge", "Files that are no documents.", len(repository.kept.left_out), label)
+            rows.add("tsearch_left_out_files", "gauge", "Files that are no documents.", sum(repository.left_out.counts.values()), label)
             rows.add("tsearch_search_seconds_total", "counter", "Seconds of its searches, and a share of those of several.", round(repository.seconds, 6), label)
         for outcome in _OUTCOMES:
             rows.add("tsearch_web_searches_total", "counter", "Searches of visitors.", self._outcomes[outcome], {"outcome": outcome})
         rows.add_histogram("tsearch_web_search_seconds", "Seconds until the answers of visitors.", self._seconds)
+        if self.connections is not None:
+            rows.add("tsearch_web_connections", "gauge", "Connections of visitors.", len(self.connections), {})
+            rows.add("tsearch_web_connections_refused_total", "counter", "Connections that were too many.", self.connections.refused, {})
         if self._client is not None:
             needed, there = await self._workers()
             rows.add("tsearch_workers_needed", "gauge", "Workers that the shards need.", needed, {})
@@ -644,35 +757,6 @@ def shares(counts: list[int], most: int) -> list[int]:
         found[at] = min(counts[at], -(-left // (len(counts) - place)) if counts[at] else 0)
         left -= found[at]
     return found
-
-
-async def _reviewed(repository: Objects, asked: Asked, words: dict[str, str], own: Filter, lane: bytes) -> tuple[Reviewed, dict[str, object]]:
-    commits = [await repository.commit(words.get(side, "")) for side in ("before", "after")]
-    query = asked.query
-    options = Options(
-        ignore_case=query.ignore_case, literal=query.literal, whole_words=query.whole_words, whole_lines=query.whole_lines, invert=query.invert,
-        names=(*query.names, *map(to_bytes, own.names)), not_names=(*query.not_names, *map(to_bytes, own.not_names)), limit=query.limit,
-        under=own.under, not_under=own.not_under, lane=lane,
-    )  # fmt: skip
-    async with repository.review(commits[0], commits[1]) as review:
-        found = await review.find(query.pattern, sees=seeing(own) if any(own) else None, **options)
-        return found, {"before": commits[0], "after": commits[1], "left_out": len(review.patch.left_out)}
-
-
-async def _lines_at(repository: Repository, name: bytes, words: dict[str, str], lane: bytes) -> tuple[list[bytes], dict[str, object]]:
-    """The lines of a file, and of which state it is. `Gone` if it is not known as it was then."""
-    if isinstance(repository, Objects):
-        commit = words.get("commit") or next(iter(repository.revisions.values()), "")
-        body = await repository.at(commit, name)
-        return body.removesuffix(b"\n").split(b"\n") if body else [], {"commit": commit}
-    assert isinstance(repository, Files)
-    repository.start("")  # `Unread` if it is not there
-    if words.get("version"):
-        with contextlib.suppress(Gone) if "now" in words else contextlib.nullcontext():
-            answer = await repository.view(name, int(words["life"]), int(words["version"]), lane)
-            return [hit.text for hit in answer], {"life": answer.life, "version": int(words["version"])}
-    answer = await repository.now(name, lane)
-    return [hit.text for hit in answer], {"life": answer.life, "version": answer.version, **({"changed": True} if words.get("version") else {})}
 
 
 def _head_of(repository: str, found: Found, answer: Answer) -> dict[str, object]:
@@ -730,8 +814,8 @@ def _address_of(request: web.Request) -> str:
 
 
 def _lane_of(request: web.Request) -> bytes:
-    """The lane of who asks: in the program, too, one with many searches holds up those of nobody else."""
-    return _address_of(request).encode()[:_LONGEST_LANE] or b"-"
+    """The lane of who asks, which all of a wider network share: in the program, too, many searches of one hold up those of nobody else."""
+    return wide_of(_address_of(request)).encode()[:_LONGEST_LANE] or b"-"
 
 
 def _host_of(address: str) -> str:
@@ -754,8 +838,8 @@ def _json(row: dict[str, object]) -> bytes:
     return _written(row).encode() + b"\n"
 
 
-def _lines_of(row: dict[str, object], status: int) -> web.Response:
-    return web.Response(body=_json(row), status=status, headers={"Content-Type": _LINES})
+def _lines_of(row: dict[str, object], status: int, more: dict[str, str] | None = None) -> web.Response:
+    return web.Response(body=_json(row), status=status, headers={"Content-Type": _LINES, **(more or {})})
 
 
 async def _end_task(task: asyncio.Task[None]) -> None:
