@@ -1,0 +1,12 @@
+pub mod OrderLemmas
+pub mod PairLemmas
+pub mod ChunkLemmas
+pub mod TextLemmas
+pub mod PartLemmas
+pub mod CompareLemmas
+pub mod MapLemmas
+pub mod FindLemmas
+pub mod BuilderLemmas
+pub mod OverLemmas
+pub mod RestLemmas
+pub mod NamedLemmas

@@ -1,0 +1,12 @@
+use Rattle.std.proofs.Common.{◌≡◌, ◌-◌, ◌≤◌, ◌++◌, List, length, drop}
+use Rattle.names.specs.Private.Entries.{Entry, joined, laid_over}
+use Rattle.names.proofs.builder.Builder.add_over.Given as goal
+
+abbrev pub invariant-loop-at : goal.invariant-loop-at
+invariant-loop-at l = record {
+  inside : l.at ≤ length l.chunk;
+  done : (later : List Entry) → joined l.self.chunks.items ++ laid_over (drop l.at l.chunk ++ later) l.rest ≡ joined l.fn.self.chunks.items ++ laid_over (l.chunk ++ later) l.fn.rest;
+}
+
+abbrev pub decreases-loop-at : goal.decreases-loop-at
+decreases-loop-at l = length l.chunk - l.at

@@ -1,0 +1,43 @@
+use Rattle.std.proofs.Common.{◌≡◌, ◌++◌, ap, sym, ◌∙◌, subst}
+use Rattle.std.specs.Prelude.{filter}
+use Rattle.std.specs.Ordering.{nat_cmp}
+use Rattle.std.specs.Cmp.Lexicographic.{slice_cmp}
+use Rattle.std.specs.FinMap.{is_sorted, from_sorted, remove}
+use Rattle.std.proofs.lemmas.Result.{IfOk-weaker}
+use Rattle.names.specs.declared.edge.Edge.TheVariants.{Before, After}
+use Rattle.names.specs.Private.Entries.{joined, passes, lies_behind, Falls}
+use Rattle.names.proofs.OrderLemmas.{falls}
+use Rattle.names.proofs.MapLemmas.{remove_rises, remove_done}
+use Rattle.names.proofs.BuilderLemmas.{made_remove}
+use Rattle.names.proofs.names.Names.remove.Goals as goal
+use Rattle.names.proofs.names.Names.remove.Goals.{In_ok-add_behind}
+
+pub add_before-requires : goal.add_before-requires
+add_before-requires c =
+    subst (λ cs. Falls (passes Before c.args.name.now) (joined cs)) (sym c.deref.ensures.value)
+    (falls Before c.args.name.now (joined c.self.inside.chunks.items) c.self.invariant.rise)
+
+pub add_behind-requires : goal.add_behind-requires
+add_behind-requires c =
+    subst (λ cs. Falls (passes After c.args.name.now) (joined cs)) (sym c.deref-2.ensures.value)
+    (falls After c.args.name.now (joined c.self.inside.chunks.items) c.self.invariant.rise)
+
+made_is : (c : In_ok-add_behind) → joined c.add_behind.new.self.chunks.items
+    ≡ filter (passes Before c.args.name.now) (joined c.self.inside.chunks.items) ++ filter (lies_behind After c.args.name.now) (joined c.self.inside.chunks.items)
+made_is c =
+    let none = joined c.new-made.result.chunks.items in
+    let one = joined c.add_before.new.self.chunks.items in
+    let es = joined c.self.inside.chunks.items in
+    made_remove none one (joined c.add_behind.new.self.chunks.items) (filter (passes Before c.args.name.now) es) (filter (lies_behind After c.args.name.now) es)
+    c.new-made.ensures (c.in_ok-add_before.ensures ∙ ap (λ cs. none ++ filter (passes Before c.args.name.now) (joined cs)) c.deref.ensures.value)
+    (c.in_ok-add_behind.ensures ∙ ap (λ cs. one ++ filter (lies_behind After c.args.name.now) (joined cs)) c.deref-2.ensures.value)
+
+pub finished-requires : goal.finished-requires
+finished-requires c = ap (is_sorted (slice_cmp nat_cmp)) (made_is c) ∙ remove_rises c.args.name.now (joined c.self.inside.chunks.items) c.self.invariant.rise
+
+pub returns : goal.returns
+returns c =
+    let made = joined c.add_behind.new.self.chunks.items in
+    IfOk-weaker c.finished.result (λ names. names ≡ from_sorted made) (λ names. names ≡ remove c.args.self.now c.args.name.now)
+    (λ names is. remove_done (joined c.self.inside.chunks.items) made c.args.name.now c.args.self.now names c.self.invariant.rise c.self.view_is
+    (made_is (goal.at.returns c).In_ok-add_behind) is) c.finished.ensures

@@ -1,0 +1,14 @@
+//! Names and their contents, as a map whose versions share what is the same.
+#![tactic(auto)]
+
+mod builder;
+mod chunk;
+mod content;
+mod draft;
+mod edge;
+mod names;
+mod rest;
+mod texts;
+
+pub use content::{Content, Named};
+pub use names::Names;

@@ -1,0 +1,3 @@
+pub mod Contents
+pub mod Bodies
+pub mod Private

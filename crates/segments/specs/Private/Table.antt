@@ -1,0 +1,68 @@
+-- How sets of places lie in memory: the trigram of each set, where its bytes end among all bytes, and the bytes.
+use Rattle.std.specs.Prelude.{◌≡◌, ℕ, zero, suc, ◌≤◌, if◌then◌else◌, ◌==◌, List, [], ◌∷◌, map, length, slice_index}
+use Rattle.std.specs.List.{slice_range}
+use Rattle.std.specs.List.Sorted.{IsStrictlyIncreasing}
+use Rattle.segments.specs.Private.PlaceBytes.{places_in, IsPlaceBytes}
+
+-- the places of the contents that have a trigram, rising
+pub record PlaceSet : Type 0 where
+  pub trigram : ℕ
+  pub places : List ℕ
+
+abbrev pub place_set : ℕ → List ℕ → PlaceSet
+place_set trigram places = record { trigram = trigram; places = places }
+
+-- what is read where there is no set
+abbrev pub no_set : PlaceSet
+no_set = record { trigram = 0; places = [] }
+
+-- the places of the trigram's set; without a set there are none
+abbrev pub places_of : List PlaceSet → ℕ → List ℕ
+places_of [] trigram = []
+places_of (s ∷ sets) trigram = if s.trigram == trigram then s.places else places_of sets trigram
+
+abbrev pub trigrams_of : List PlaceSet → List ℕ
+trigrams_of sets = map (λ s. s.trigram) sets
+
+-- the sets of these trigrams, of places below `count`; the bytes of the first one begin at `from`
+unfoldable pub sets_from : ℕ → ℕ → List ℕ → List ℕ → List ℕ → List PlaceSet
+sets_from count from [] ends bytes = []
+sets_from count from (t ∷ ts) [] bytes = []
+sets_from count from (t ∷ ts) (e ∷ es) bytes = place_set t (places_in count (slice_range bytes from e)) ∷ sets_from count e ts es bytes
+
+-- the last end
+unfoldable pub last_end : ℕ → List ℕ → ℕ
+last_end from [] = from
+last_end from (e ∷ es) = last_end e es
+
+-- where the bytes of the set with this number begin
+abbrev pub begin_at : ℕ → List ℕ → ℕ → ℕ
+begin_at from ends zero = from
+begin_at from ends (suc i) = slice_index ends i
+
+-- The ends rise from `from` to `total`.
+unfoldable pub AreEnds : ℕ → List ℕ → ℕ → Type 0
+AreEnds from [] total = from ≤ total
+AreEnds from (e ∷ es) total = (from ≤ e) × AreEnds e es total
+
+-- The bytes up to each end, the first from `from` on, are those of a set of places below `count`.
+unfoldable pub AreSpelled : ℕ → ℕ → List ℕ → List ℕ → Type 0
+AreSpelled count from [] bytes = Unit {0}
+AreSpelled count from (e ∷ es) bytes = IsPlaceBytes count (slice_range bytes from e) × AreSpelled count e es bytes
+
+-- The arrays are those of sets of places below `count`.
+pub record IsTable (count : ℕ) (ts es bytes : List ℕ) : Type 0 where
+  pub few : count ≤ 4294967296
+  pub same : length ts ≡ length es
+  pub rising : IsStrictlyIncreasing ts
+  pub ends : AreEnds 0 es (length bytes)
+  pub whole : last_end 0 es ≡ length bytes
+  pub spelled : AreSpelled count 0 es bytes
+
+-- sets of places below `count`
+pub record Laid : Type 0 where
+  pub count : ℕ
+  pub sets : List PlaceSet
+
+abbrev pub laid : ℕ → List PlaceSet → Laid
+laid count sets = record { count = count; sets = sets }

@@ -1,0 +1,5 @@
+pub mod BodyLemmas
+pub mod VersionLemmas
+pub mod SaidLemmas
+pub mod FreshLemmas
+pub mod GatherLemmas

@@ -1,0 +1,29 @@
+use Rattle.std.proofs.Common.{◌≡◌, ◌+◌, sym, ap, ◌∙◌, subst, arith}
+use Rattle.std.specs.Prelude.{not}
+use Rattle.std.specs.FinMap.{retain_keys}
+use Rattle.std.proofs.lemmas.Result.{IfOk-weaker}
+use Rattle.prefixes.specs.Under.{begins_with}
+use Rattle.documents.specs.State.{State, state, applied}
+use Rattle.documents.specs.declared.command.Command.TheVariants.{RemoveUnder}
+use Rattle.versions.specs.Private.Version.{bodies_of, IsVersion}
+use Rattle.versions.proofs.VersionLemmas.{retained, remove_under_done}
+use Rattle.versions.proofs.draft.Draft.remove_under.Goals as goal
+use Rattle.versions.proofs.draft.Draft.remove_under.Goals.{In_ok-names}
+
+names_are : (c : In_ok-names) → c.in_ok-names.names ≡ retain_keys c.self.inside.names (λ name. not (begins_with c.args.prefix.now name))
+names_are c = c.in_ok-names.ensures ∙ ap (λ k. retain_keys c.self.inside.names (λ name. not (begins_with k name))) c.as_bytes.ensures.bytes
+
+pub next-requires : goal.next-requires
+next-requires c = record {
+  few = (let same = ap (λ (s : State). s.version) c.self.view_is in let few = c.requires in omega (arith, same, few));
+  whole =
+      subst (λ ns. IsVersion (c.self.inside.version + 1) c.self.inside.analysed ns c.self.inside.sets) (sym (names_are c))
+      (retained c.self.inside.version c.self.inside.analysed c.self.inside.names c.self.inside.sets (λ name. not (begins_with c.args.prefix.now name)) c.self.invariant.is);
+}
+
+pub returns : goal.returns
+returns c =
+    IfOk-weaker c.next.result (λ next. next ≡ state (c.self.inside.version + 1) (bodies_of c.in_ok-names.names))
+    (λ next. next ≡ applied (RemoveUnder c.args.prefix.now) c.args.self.now)
+    (λ next is. remove_under_done c.self.inside.version c.self.inside.names c.in_ok-names.names c.args.prefix.now c.args.self.now next
+    c.self.view_is (names_are (goal.at.returns c).In_ok-names) is) c.next.ensures

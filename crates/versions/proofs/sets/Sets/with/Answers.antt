@@ -1,0 +1,14 @@
+use Rattle.std.proofs.Common.{◌++◌, ap, ◌∙◌}
+use Rattle.std.specs.Arc.{arc_value}
+use Rattle.versions.specs.Private.Version.{said}
+use Rattle.versions.proofs.SaidLemmas.{said_push}
+use Rattle.versions.proofs.sets.Sets.with.Goals as goal
+
+pub returns : goal.returns
+returns c =
+    let segments = c.in_ok-segments.segments.items in
+    let segment = c.in_ok-new.field-0 in
+    ap said c.in_ok-push.ensures.items
+    ∙ (said_push segments segment
+    ∙ (ap (λ x. x ++ arc_value segment) (c.in_ok-segments.ensures ∙ (ap said c.deref.ensures.value ∙ c.self.view_is))
+    ∙ ap (λ x. c.args.self.now ++ x) c.in_ok-new.ensures.ok))

@@ -1,0 +1,4 @@
+-- What only private items cite. The modules are `pub` because a clause can cite no others.
+pub mod Version
+pub mod Fresh
+pub mod Gathered
