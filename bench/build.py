@@ -26,12 +26,12 @@ PARTS_OF_CRATE = ("src", "specs", "proofs")
 USED = {
     "levels": ["ere", "matcher", "query"],
     "limits": ["ere", "engine", "lines", "matcher"],
-    "lists": ["ere", "trigram", "index", "prefixes", "watch"],
+    "lists": ["ere", "trigram", "documents", "index", "prefixes", "watch"],
     "matching": ["ere", "lines", "matcher"],
     "preparing": ["ere", "trigram"],
-    "readings": ["index", "prepare", "search", "published"],
+    "readings": ["documents", "index", "prepare", "search", "published"],
     "stack": ["ere", "lines", "matcher"],
-    "trigrams": ["ere", "trigram", "index", "prefixes", "watch"],
+    "trigrams": ["ere", "trigram", "documents", "index", "prefixes", "watch"],
 }
 PARTS = {"lists": ["lists", "selection"], "trigrams": ["trigrams", "selection"]}
 

@@ -21,9 +21,10 @@ from counted import Counted
 from made_by_hand import Source, test_files
 
 PAGE = TOP / "docs/PROVED.md"
-ITEM = re.compile(r"^- (\w+) public functions have no `ensures`.*$", re.MULTILINE)
+ITEM = re.compile(r"^- ([\w-]+) public functions have no `ensures`.*$", re.MULTILINE)
 NAMED = re.compile(r"`([\w:]+)` of `(\w+)`")
-NUMBERS = "No One Two Three Four Five Six Seven Eight Nine Ten Eleven Twelve Thirteen Fourteen Fifteen Sixteen Seventeen".split()
+NUMBERS = "No One Two Three Four Five Six Seven Eight Nine Ten Eleven Twelve Thirteen Fourteen Fifteen Sixteen Seventeen Eighteen Nineteen".split()
+NUMBERS += ["Twenty", *(f"Twenty-{number.lower()}" for number in NUMBERS[1:10])]
 
 
 class File(Source):

@@ -25,7 +25,7 @@ import copies  # noqa: E402
 from counted import Counted  # noqa: E402
 from refused import counting  # noqa: E402
 
-USES = ["ere", "query", "prefixes", "index", "prepare", "views", "search", "published"]
+USES = ["ere", "query", "prefixes", "documents", "index", "prepare", "views", "search", "published"]
 WANTED = b"each call did its work, at once or after a refusal\n"
 
 

@@ -56,7 +56,7 @@ def main():
     times = int(sys.argv[1]) if len(sys.argv) > 1 else 3
     outcomes, counted = collections.Counter(), Counted()
     with tempfile.TemporaryDirectory() as folder:
-        program, library = copies.build_program(os.path.join(folder, "copy"), copies.beside(__file__), ["index", "transcript", "tsearch"]), counting.build(folder)
+        program, library = copies.build_program(os.path.join(folder, "copy"), copies.beside(__file__), ["documents", "transcript", "tsearch"]), counting.build(folder)
         for _ in range(times):
             refused = count = 0
             while refused <= count:

@@ -199,22 +199,25 @@ def spans_are_given_up_within_a_line():
 
 def a_search_is_given_up_within_one_long_line():
     """A line of 64 MiB would be read for minutes, by a simulation, as it is, for those that do not match, and for its spans. The search is
-    cancelled, and then one like it is too slow; each time its reader has the next search at once."""
+    cancelled, and in a session with a limit of time one like it is too slow; each time its reader has the next search at once."""
     source = random.Random(1)
     slow = b"x" + source.randbytes(MOST_LINE - 1).translate(LETTERS)
     bodies = put(b"slow", slow) + put(b"spans", b"a" * MOST_LINE)
     finds = b"search %s\n" % SLOW, b"find -c -v -- %s\n" % SLOW, b"find --spans -n ^spans$ -- (a|aa)*b|a\n"
-    with Session("--readers", "1", "--search-ms", "2000", "--max-body", b"%d" % MOST_LINE, "--max-line", b"%d" % MOST_LINE) as session:
+    words = "--readers", "1", "--max-body", b"%d" % MOST_LINE, "--max-line", b"%d" % MOST_LINE
+    answer = b"search %d version 2 lines 0\n"
+    with Session(*words) as session:
         session.send(bodies + b"publish\n")
-        session.ask(b"searchin ^c$ x\n", b"search 1 version 2 lines 0\n")
-        for number, find in enumerate(finds):
-            cancelled, quick, slow, last = range(4 * number + 2, 4 * number + 6)
-            session.send(find)
+        for number in range(1, 2 * len(finds), 2):
+            session.send(finds[number // 2])
             session.expect_quiet()
-            answer = b"search %d version 2 lines 0\n"
-            session.ask(b"cancel %d\nsearchin ^c$ x\n" % cancelled, CANCELLED % cancelled + answer % quick)
-            session.ask(find, TOO_SLOW % slow)
-            session.ask(b"searchin ^c$ x\n", answer % last)
+            session.ask(b"cancel %d\nsearchin ^c$ x\n" % number, CANCELLED % number + answer % (number + 1))
+        session.end(2)
+    with Session(*words, "--search-ms", "2000") as session:
+        session.send(bodies + b"publish\n")
+        for number in range(1, 2 * len(finds), 2):
+            session.ask(finds[number // 2], TOO_SLOW % number)
+            session.ask(b"searchin ^c$ x\n", answer % (number + 1))
         session.end(2)
 
 

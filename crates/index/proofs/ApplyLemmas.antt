@@ -5,12 +5,12 @@ use Rattle.std.specs.List.Sorted.{IsStrictlyIncreasing}
 use Rattle.std.proofs.lemmas.List.{map-append}
 use Rattle.std.proofs.lemmas.List.Elements.{All-head, All-tail, All-nil, All-push, All-weaker, All-filter, All-map}
 use Rattle.posting.proofs.Rising.{rising-push}
-use Rattle.index.specs.Text.{IsBody}
+use Rattle.documents.specs.Text.{IsBody}
 use Rattle.index.specs.Private.Numbered.{Document, document, body_bytes}
 use Rattle.index.specs.Private.Contents.{AreContents}
 use Rattle.index.specs.Private.Slots.{without_number, with_body_at}
 use Rattle.index.proofs.DocumentLemmas.{numbers-replaced, All-replaced}
-use Rattle.index.proofs.RisingLemmas.{rise-filter}
+use Rattle.documents.proofs.RisingLemmas.{rise-filter}
 use Rattle.index.proofs.StoredLemmas.{Numbered, Numbered-rise, body_bytes-cons}
 
 -- The number is from 1 to the version, and the body is a body.

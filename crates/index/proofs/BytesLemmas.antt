@@ -11,8 +11,8 @@ use Rattle.std.proofs.lemmas.List.{nil_from_length}
 use Rattle.std.proofs.lemmas.List.Sorted.{IsPermutation-map, sum_by-IsPermutation}
 use Rattle.std.proofs.lemmas.List.Sums.{sum_by-cons}
 use Rattle.std.proofs.lemmas.Map.Lookups.{exact_bytes}
-use Rattle.index.specs.Documents.{Document, Documents, document}
-use Rattle.index.specs.State.{body_bytes}
+use Rattle.documents.specs.Documents.{Document, Documents, document}
+use Rattle.documents.specs.State.{body_bytes}
 use Rattle.index.proofs.PlainLemmas.{put-permutes}
 
 abbrev weigh : List (List ℕ × List ℕ) → List ℕ

@@ -19,7 +19,7 @@ use Rattle.std.proofs.lemmas.List.Sorted.{IsPermutation-refl, IsPermutation-cons
 use Rattle.std.proofs.lemmas.List.Sorted.{IsPermutation-keeps, IsPermutation-map, Contains-permutation, IsPermutation-sym, sorted_far, ranks_by}
 use Rattle.posting.specs.ListValue.{has}
 use Rattle.posting.proofs.SetLemmas.{contains-has}
-use Rattle.index.specs.declared.document.SharedDocument.{SharedDocument}
+use Rattle.documents.specs.declared.document.SharedDocument.{SharedDocument}
 use Rattle.index.specs.Private.Numbered.{Document, number_of, AreFirstInNameOrder, IsInNameOrder}
 use Rattle.prefixes.specs.Under.{begins_with}
 use Rattle.index.specs.Private.Numbered.{document_of, documents_shared}

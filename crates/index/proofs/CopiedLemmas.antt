@@ -15,14 +15,14 @@ use Rattle.std.proofs.lemmas.List.Folds.{list_any_at}
 use Rattle.std.proofs.lemmas.Map.Lookups.{exact_bytes}
 use Rattle.std.proofs.lemmas.Map.Views.{btree_map_get_iff}
 use Rattle.prefixes.specs.Under.{begins_with}
-use Rattle.index.specs.Text.{IsName}
+use Rattle.documents.specs.Text.{IsName}
 use Rattle.index.specs.declared.store.Store.{Store}
 use Rattle.index.specs.declared.copying.Copied.{Copied}
 use Rattle.index.specs.declared.copying.Leaves.{Leaves}
 use Rattle.index.specs.declared.copying.Leaves.TheVariants.{Old, New}
-use Rattle.index.specs.declared.command.Command.TheVariants.{CopyUnder}
-use Rattle.index.specs.Documents.{Documents, documents_after, renamed}
-use Rattle.index.specs.State.{body_bytes}
+use Rattle.documents.specs.declared.command.Command.TheVariants.{CopyUnder}
+use Rattle.documents.specs.Documents.{Documents, documents_after, renamed}
+use Rattle.documents.specs.State.{body_bytes}
 use Rattle.index.specs.Private.Numbered.{Document}
 use Rattle.index.specs.Private.Contents.{Groups, AreContents, body_at, has_name, is_number, named}
 use Rattle.index.specs.Private.Copying.{copied, copies_in, is_new, is_among, entered, joins, restored, leaves, IsEntered, AreLeft}
@@ -32,7 +32,7 @@ use Rattle.index.proofs.DocumentLemmas.{same_name, bytes_eq-refl, Contains-cons,
 use Rattle.index.proofs.IndexLemmas.{documents_of, later_store}
 use Rattle.index.proofs.ApplyLemmas.{AreContents-later}
 use Rattle.index.proofs.NamedLemmas.{body-named, number_is}
-use Rattle.index.proofs.RenamedLemmas.{one_or_other, get-copied, begins_renamed, renamed_back}
+use Rattle.documents.proofs.RenamedLemmas.{one_or_other, get-copied, begins_renamed, renamed_back}
 use Rattle.index.proofs.CopyingLemmas.{AreAlike, entered-other, entered-here, joins-other, joins-here, leaves-other, leaves-here, restored-other, restored-here}
 
 same_number : (n : ℕ) → (n == n) ≡ true

@@ -15,11 +15,11 @@ use Rattle.std.proofs.lemmas.List.{take_more}
 use Rattle.std.proofs.lemmas.List.Sums.{fold-append}
 use Rattle.std.proofs.lemmas.List.Folds.{list_any-append}
 use Rattle.prefixes.specs.Under.{begins_with}
-use Rattle.index.specs.Text.{IsName}
+use Rattle.documents.specs.Text.{IsName}
 use Rattle.index.specs.declared.copying.Copied.{Copied}
 use Rattle.index.specs.declared.copying.Leaves.{Leaves}
 use Rattle.index.specs.declared.copying.Leaves.TheVariants.{Old, New}
-use Rattle.index.specs.Documents.{renamed}
+use Rattle.documents.specs.Documents.{renamed}
 use Rattle.index.specs.Private.Numbered.{Document}
 use Rattle.index.specs.Private.Contents.{Groups, AreContents, AreGroupsOf, HasNames, IsLeft, body_at, has_name, is_number, with_name, named}
 use Rattle.index.specs.Private.Copying.{copied, copies_in, is_new, is_among, entered, joins, restored, number_again, left_by, leaves, IsFree, IsEntered, AreLeft}

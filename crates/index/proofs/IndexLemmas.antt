@@ -13,10 +13,10 @@ use Rattle.std.specs.FinMap as map
 use Rattle.std.proofs.lemmas.Bool.{false≢true}
 use Rattle.std.proofs.lemmas.Bool.Decides.{nat_tests}
 use Rattle.std.proofs.lemmas.Map.Lookups.{exact_bytes}
-use Rattle.index.specs.Text.{IsName, IsBody}
+use Rattle.documents.specs.Text.{IsName, IsBody}
 use Rattle.index.specs.declared.store.Store.{Store}
-use Rattle.index.specs.Documents.{Documents}
-use Rattle.index.specs.State.{body_bytes}
+use Rattle.documents.specs.Documents.{Documents}
+use Rattle.documents.specs.State.{body_bytes}
 use Rattle.index.specs.Private.Numbered.{Document, document_at, body_bytes as content_bytes}
 use Rattle.index.specs.Private.Contents.{Groups, AreContents, AreGroupsOf, HasNames, IsLeft, body_of, body_at, has_name, is_kept_with, is_name_in, is_number, with_name, named}
 use Rattle.index.specs.Private.Plain.{plain_documents}
@@ -26,7 +26,7 @@ use Rattle.index.proofs.DocumentLemmas.{same_name, bytes_eq-refl}
 use Rattle.index.proofs.StoredLemmas.{document_at-replaced}
 use Rattle.index.proofs.ApplyLemmas.{AreContents-none, AreContents-later, AreContents-replace, bytes-contents}
 use Rattle.index.proofs.BytesLemmas.{bytes-none, bytes-without}
-use Rattle.index.proofs.ListedLemmas.{ties}
+use Rattle.documents.proofs.ListedLemmas.{ties}
 use Rattle.index.proofs.NamedLemmas.{shown, body-named, content_of_number}
 
 abbrev pub documents_of : BTreeMap (List ℕ) ℕ → Store → Documents

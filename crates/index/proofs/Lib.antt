@@ -1,8 +1,4 @@
 pub mod DocumentLemmas
-pub mod LineLemmas
-pub mod NameLemmas
-pub mod StateLemmas
-pub mod RisingLemmas
 pub mod SlotLemmas
 pub mod StoredLemmas
 pub mod PieceLemmas
@@ -13,8 +9,6 @@ pub mod PrefixLemmas
 pub mod ChosenLemmas
 pub mod SortLemmas
 pub mod IndexLemmas
-pub mod ListedLemmas
-pub mod LawLemmas
 pub mod GroupLemmas
 pub mod NamedLemmas
 pub mod PlainLemmas
@@ -23,7 +17,6 @@ pub mod LeaveLemmas
 pub mod CountLemmas
 pub mod NewLemmas
 pub mod RemovedLemmas
-pub mod RenamedLemmas
 pub mod CopyingLemmas
 pub mod CopiedLemmas
 pub mod MovedLemmas

@@ -12,7 +12,7 @@ use Rattle.std.proofs.lemmas.Map.Lookups.{exact_bytes}
 use Rattle.index.specs.declared.store.Store.{Store}
 use Rattle.index.specs.declared.copying.Copied.{Copied}
 use Rattle.index.specs.declared.copying.Leaves.TheVariants.{Old}
-use Rattle.index.specs.State.{body_bytes}
+use Rattle.documents.specs.State.{body_bytes}
 use Rattle.index.specs.Private.Contents.{Groups, body_at, has_name, is_number, named}
 use Rattle.index.specs.Private.Copying.{is_among, entered, joins, leaves, IsEntered, AreLeft}
 use Rattle.index.specs.Private.Moving.{IsMove, AreMoves}

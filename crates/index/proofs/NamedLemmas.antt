@@ -28,7 +28,7 @@ use Rattle.query.specs.Query.{Formula, is_met}
 use Rattle.query.specs.Trigrams.{trigrams_of_body}
 use Rattle.posting.specs.ListValue.{has}
 use Rattle.prefixes.specs.Under.{begins_with}
-use Rattle.index.specs.Text.{IsBody}
+use Rattle.documents.specs.Text.{IsBody}
 use Rattle.index.specs.declared.store.Store.{Store}
 use Rattle.index.specs.Private.Numbered.{Document, document, document_at, number_of, meets, is_under, state, IsGoodDocument, IsState, IsInNameOrder, RisesByName}
 use Rattle.index.specs.Private.Contents.{Groups, IsAlone, AreChosen, body_of, body_at, has_name, is_kept_with, is_name_in, is_number, named, count_in, names_count}
@@ -37,12 +37,12 @@ use Rattle.index.specs.Private.Chosen.{document_numbered, document_named, docume
 use Rattle.index.specs.Private.Store.{stored, IsIndex}
 use Rattle.index.proofs.DocumentLemmas.{same_name, bytes_eq-refl, Contains-cons, Contains-head, Contains-tail, Contains-map, map-Contains, Contains-filter, filter-Contains}
 use Rattle.index.proofs.DocumentLemmas.{filter_mapped, filter_same, Contains-number_of}
-use Rattle.index.proofs.RisingLemmas.{rises_by, same_elements, rise-filter}
+use Rattle.documents.proofs.RisingLemmas.{rises_by, same_elements, rise-filter}
 use Rattle.index.proofs.StoredLemmas.{Numbered, Numbered-rise}
 use Rattle.index.proofs.UnderLemmas.{picked, picked-first}
 use Rattle.index.proofs.OrderLemmas.{Named, Named-pairs, number_of-Contains, document_at-Contains, rises-filter, some_in_order, chosen_at}
 use Rattle.index.proofs.ChosenLemmas.{count-numbered}
-use Rattle.index.proofs.ListedLemmas.{ties}
+use Rattle.documents.proofs.ListedLemmas.{ties}
 
 -- the document of an entry
 abbrev pub shown : List Document → List ℕ × ℕ → Document

@@ -17,7 +17,7 @@ use Rattle.std.specs.Cmp.{both_ways}
 use Rattle.std.proofs.Math.Bool.{or-true}
 use Rattle.index.specs.declared.sets.Sets.{Sets}
 use Rattle.index.specs.Private.Numbered.{Document, document, document_at, number_of, meets, is_picked, IsInNameOrder, RisesByName}
-use Rattle.index.specs.Text.{IsName}
+use Rattle.documents.specs.Text.{IsName}
 use Rattle.prefixes.specs.Under.{begins_with}
 use Rattle.index.specs.Private.Sets.{AreSetsOf, trigrams_shown}
 use Rattle.index.proofs.DocumentLemmas.{same_name, bytes_eq-refl, Contains-cons, Contains-head, Contains-tail}

@@ -14,9 +14,9 @@ use Rattle.prefixes.specs.Under.{begins_with}
 use Rattle.index.specs.declared.store.Store.{Store}
 use Rattle.index.specs.declared.copying.Copied.{Copied}
 use Rattle.index.specs.declared.copying.Leaves.TheVariants.{Old}
-use Rattle.index.specs.declared.command.Command.TheVariants.{CopyUnder}
-use Rattle.index.specs.Documents.{Documents, documents_after, renamed}
-use Rattle.index.specs.State.{body_bytes}
+use Rattle.documents.specs.declared.command.Command.TheVariants.{CopyUnder}
+use Rattle.documents.specs.Documents.{Documents, documents_after, renamed}
+use Rattle.documents.specs.State.{body_bytes}
 use Rattle.index.specs.Private.Contents.{Groups, body_at, has_name, is_number, named}
 use Rattle.index.specs.Private.Copying.{is_among, entered, joins, leaves, AreApart, IsCopy, IsEntered, AreLeft}
 use Rattle.index.specs.Private.Plain.{plain_documents}
@@ -24,7 +24,7 @@ use Rattle.index.specs.Private.Store.{stored, IsStore, IsIndex}
 use Rattle.index.proofs.DocumentLemmas.{same_name}
 use Rattle.index.proofs.IndexLemmas.{documents_of}
 use Rattle.index.proofs.NamedLemmas.{body-named}
-use Rattle.index.proofs.RenamedLemmas.{one_or_other, copied_body, get-copied, begins_renamed}
+use Rattle.documents.proofs.RenamedLemmas.{one_or_other, copied_body, get-copied, begins_renamed}
 use Rattle.index.proofs.CopyingLemmas.{AreAlike, entered-other, entered-here, joins-other, joins-here, leaves-other, leaves-here}
 use Rattle.index.proofs.CopiedLemmas.{IsIndex-moved, any_found}
 

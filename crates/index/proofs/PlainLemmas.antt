@@ -22,14 +22,14 @@ use Rattle.std.proofs.lemmas.Map.Lookups.{exact_bytes}
 use Rattle.std.proofs.lemmas.Result.{on_ok_weaker, on_err_weaker}
 use Rattle.query.specs.Query.{Formula}
 use Rattle.posting.specs.ListValue.{has}
-use Rattle.index.specs.Text.{IsName, IsBody}
+use Rattle.documents.specs.Text.{IsName, IsBody}
 use Rattle.prefixes.specs.Under.{begins_with}
-use Rattle.index.specs.declared.command.Command.{Command}
-use Rattle.index.specs.declared.document.Candidates.{Candidates}
-use Rattle.index.specs.Documents.{Document, Documents, document, has_under, listed, meets, is_under_any}
-use Rattle.index.specs.State.{State, applied, body_bytes, IsState}
-use Rattle.index.specs.Shared.{documents_shared, AreCandidates, NumbersTellBodies}
-use Rattle.index.specs.declared.document.SharedDocument.{SharedDocument}
+use Rattle.documents.specs.declared.command.Command.{Command}
+use Rattle.documents.specs.declared.document.Candidates.{Candidates}
+use Rattle.documents.specs.Documents.{Document, Documents, document, has_under, listed, meets, is_under_any}
+use Rattle.documents.specs.State.{State, applied, body_bytes, IsState}
+use Rattle.documents.specs.Shared.{documents_shared, AreCandidates, NumbersTellBodies}
+use Rattle.documents.specs.declared.document.SharedDocument.{SharedDocument}
 use Rattle.index.specs.Private.Contents.{AreChosen}
 use Rattle.index.specs.Private.Numbered.{Document as NumberedDocument, State as NumberedState}
 use Rattle.index.specs.Private.Numbered.{is_chosen, meets as numbered_meets, body_bytes as numbered_bytes, has_under as numbered_has_under}
@@ -40,8 +40,8 @@ use Rattle.index.proofs.DocumentLemmas.{Contains-map, map-Contains, Contains-fil
 use Rattle.index.proofs.OrderLemmas.{Named, Named-pairs}
 use Rattle.index.proofs.PrefixLemmas.{Contains-left}
 use Rattle.index.proofs.ApplyLemmas.{bytes_at_most}
-use Rattle.index.proofs.RisingLemmas.{rises_by, same_elements}
-use Rattle.index.proofs.ListedLemmas.{listed-rises}
+use Rattle.documents.proofs.RisingLemmas.{rises_by, same_elements}
+use Rattle.documents.proofs.ListedLemmas.{listed-rises}
 
 -- ---- the same documents in another order
 

@@ -15,13 +15,13 @@ use Rattle.std.specs.Cmp.Lexicographic.{nat_list_cmp_total}
 use Rattle.std.specs.FinMap.{find, remove, get-remove, get-from_entries, same_map}
 use Rattle.std.specs.FinMap as fin
 use Rattle.std.proofs.lemmas.Map.Lookups.{exact_bytes}
-use Rattle.index.specs.declared.command.Command.TheVariants.{RemoveUnder}
-use Rattle.index.specs.Documents.{Documents, documents_after}
+use Rattle.documents.specs.declared.command.Command.TheVariants.{RemoveUnder}
+use Rattle.documents.specs.Documents.{Documents, documents_after}
 use Rattle.index.specs.Private.Numbered.{Document, document_at, number_of, has_under}
 use Rattle.index.specs.Private.Contents.{Groups, has_name, is_name_in}
 use Rattle.index.specs.Private.Plain.{entry, plain_documents}
 use Rattle.index.proofs.DocumentLemmas.{same_name, bytes_eq-refl}
-use Rattle.index.proofs.LawLemmas.{get-removed_under}
+use Rattle.documents.proofs.LawLemmas.{get-removed_under}
 use Rattle.index.proofs.UnderLemmas.{none_behind}
 use Rattle.prefixes.proofs.UnderLemmas.{begins_le}
 

@@ -11,7 +11,7 @@ use Rattle.std.proofs.lemmas.Option.{slice_get_within, get_or_from_slice_get}
 use Rattle.std.proofs.lemmas.List.Sorted.{IsPartitionedBy-ltb}
 use Rattle.std.proofs.lemmas.List.Sums.{length-filter, count_by-le-length}
 use Rattle.posting.proofs.Rising.{rising-push}
-use Rattle.index.proofs.RisingLemmas.{below_later, rise-filter}
+use Rattle.documents.proofs.RisingLemmas.{below_later, rise-filter}
 use Rattle.index.specs.declared.slots.Slot.{Slot}
 use Rattle.index.specs.declared.slots.Occupant.{Occupant}
 use Rattle.index.specs.Private.Numbered.{Document, document, document_at}

@@ -33,7 +33,7 @@ use Rattle.index.specs.Private.Slots.{documents_of_slot, documents_in, numbers_i
 use Rattle.index.specs.Private.Sets.{IsNew, IsChange, trigrams_shown, trigrams_at, is_whole, is_left, NoneIsLeft, is_waiting, AreSetsOf, IsAmongWaiting, WaitsWhole}
 use Rattle.index.specs.Private.Store.{stored, IsStore, IsReadyFor}
 use Rattle.index.proofs.DocumentLemmas.{numbers-replaced}
-use Rattle.index.proofs.RisingLemmas.{below_later}
+use Rattle.documents.proofs.RisingLemmas.{below_later}
 use Rattle.index.proofs.SlotLemmas.{Rising, rising, with_body_at-absent, documents_in-push}
 
 -- ---- each number is below those after it

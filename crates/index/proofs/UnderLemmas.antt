@@ -15,7 +15,7 @@ use Rattle.std.proofs.lemmas.Bool.{false≢true}
 use Rattle.std.proofs.lemmas.Bool.Decides.{nat_tests}
 use Rattle.std.proofs.lemmas.List.{length-take}
 use Rattle.std.proofs.lemmas.List.Kept.{IsStrictlySortedBy-filter}
-use Rattle.index.specs.Text.{IsName, has_bad_byte, is_name_byte, greatest_name}
+use Rattle.documents.specs.Text.{IsName, has_bad_byte, is_name_byte, greatest_name}
 use Rattle.prefixes.specs.Under.{begins_with}
 use Rattle.prefixes.proofs.UnderLemmas.{begins_le, first_le, same_first}
 use Rattle.index.specs.Private.Chosen.{IsFirstUnder}

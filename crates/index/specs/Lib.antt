@@ -1,5 +1,2 @@
-pub mod Text
-pub mod Documents
-pub mod State
-pub mod Shared
+pub mod Pieces
 pub mod Private

@@ -7,13 +7,14 @@ ghost use Rattle.std.specs.Cmp.Lexicographic.{slice_cmp};
 ghost use Rattle.std.specs.BTreeMap.{IsUnchanged, IsOrdered, btree_map_len, get};
 ghost use Rattle.std.specs.BTreeSet.{contains};
 ghost use Rattle.std.specs.List.Sorted.{IsStrictlyIncreasing};
-ghost use Rattle.index.specs.declared.command.Command.TheVariants.{Put as put_command, Remove as remove_command, RemoveUnder as remove_under_command, CopyUnder as copy_under_command};
+ghost use Rattle.documents.specs.declared.command.Command.TheVariants.{Put as put_command, Remove as remove_command, RemoveUnder as remove_under_command, CopyUnder as copy_under_command};
 ghost use Rattle.watch.specs.CalledOff.{IsCalledOffOnlyIf};
 ghost use Rattle.query.specs.Query.{formula_of};
 ghost use Rattle.query.specs.Trigrams.{ListsTrigrams};
-ghost use Rattle.index.specs.Text.{IsName};
+ghost use Rattle.documents.specs.Text.{IsName};
 ghost use Rattle.prefixes.specs.Under.{begins_with};
-ghost use Rattle.index.specs.State.{applied, body_bytes, IsTakenUnder};
+ghost use Rattle.documents.specs.State.{applied, body_bytes};
+ghost use Rattle.index.specs.Pieces.{IsTakenUnder};
 ghost use Rattle.index.specs.Private.Numbered.{document, document_at, number_of, has_under, is_chosen, is_picked, is_under_any, AreFirstInNameOrder};
 ghost use Rattle.index.specs.Private.Numbered.{state, body_bytes as content_bytes, IsState, documents_shared};
 ghost use Rattle.index.specs.Private.Contents.{body_at, has_name, is_number, with_name, names_count, AreGroupsOf, HasNames, IsLeft, IsAlone, IsOwn, AreChosen};
@@ -23,20 +24,17 @@ ghost use Rattle.index.specs.Private.Chosen.{document_named, document_numbered, 
 ghost use Rattle.index.specs.Private.Slots.{documents_in, RiseTo};
 ghost use Rattle.index.specs.Private.Store.{stored, IsStore, HasPlaceFor};
 
-use crate::body::Body;
+use crate::analysed::{Analysed, hash_of};
 use crate::by_name::sort_by_name;
 use crate::copying::{
     Leaves, Part, are_apart, copies_under, enter_all, leave_all, restore_all, some_copies,
 };
-use crate::document::SharedDocument;
-use crate::error::NameError;
 use crate::groups::{join, part, take_back};
-use crate::held::{Held, hash_of};
 use crate::moving::moves_between;
-use crate::name::{MAX_NAME, Name};
 use crate::sets::FEW_BYTES;
 use crate::slots::{Occupant, Slot, occupant_at, occupant_near};
 use crate::store::Store;
+use documents::{Body, MAX_NAME, Name, NameError, SharedDocument};
 use posting::{Lookup, Trigrams};
 use prefixes::Prefixes;
 use query::Query;
@@ -115,7 +113,7 @@ impl Catalog {
     }
 
     /// As `Index::apply_put`.
-    pub(crate) fn apply_put(&mut self, name: &Name, held: &Held) -> Result<(), AllocError>
+    pub(crate) fn apply_put(&mut self, name: &Name, held: &Analysed) -> Result<(), AllocError>
         requires { self.old.version + 1 < 2 ^ 32 }
         ensures ok { OnOk result (plain_state self.new ≡ applied (put_command name.now held.now) (plain_state self.old)) }
         ensures err { OnErr result (self.new ≡ self.old) }
@@ -129,7 +127,7 @@ impl Catalog {
     }
 
     /// As `Index::put_later`.
-    pub(crate) fn put_later(&mut self, name: &Name, held: &Held) -> Result<(), AllocError>
+    pub(crate) fn put_later(&mut self, name: &Name, held: &Analysed) -> Result<(), AllocError>
         requires { self.old.version + 1 < 2 ^ 32 }
         ensures ok { OnOk result (plain_state self.new ≡ applied (put_command name.now held.now) (plain_state self.old)) }
         ensures err { OnErr result (self.new ≡ self.old) }
@@ -143,7 +141,7 @@ impl Catalog {
     }
 
     /// As `Index::put_in_pieces`.
-    pub(crate) fn put_in_pieces(&mut self, name: &Name, held: &Held) -> Result<(), AllocError>
+    pub(crate) fn put_in_pieces(&mut self, name: &Name, held: &Analysed) -> Result<(), AllocError>
         requires { self.old.version + 1 < 2 ^ 32 }
         ensures ok { OnOk result (plain_state self.new ≡ applied (put_command name.now held.now) (plain_state self.old)) }
         ensures err { OnErr result (self.new ≡ self.old) }
@@ -162,7 +160,7 @@ impl Catalog {
         &mut self,
         name: &Name,
         old: Option<u32>,
-        held: &Held,
+        held: &Analysed,
     ) -> Result<(), AllocError>
         requires few { self.old.version + 1 < 2 ^ 32 }
         requires old { old ≡ number_of name.now self.old.documents }
@@ -190,7 +188,7 @@ impl Catalog {
         &mut self,
         name: &Name,
         old: Option<u32>,
-        held: &Held,
+        held: &Analysed,
         later: bool,
     ) -> Result<(), AllocError>
         requires few { self.old.version + 1 < 2 ^ 32 }
@@ -210,7 +208,7 @@ impl Catalog {
         &mut self,
         name: &Name,
         old: Option<u32>,
-        held: &Held,
+        held: &Analysed,
         later: bool,
     ) -> Result<bool, AllocError>
         requires few { self.old.version + 1 < 2 ^ 32 }
@@ -233,7 +231,7 @@ impl Catalog {
         &mut self,
         name: &Name,
         old: Option<u32>,
-        held: &Held,
+        held: &Analysed,
         later: bool,
     ) -> Result<bool, AllocError>
         requires few { self.old.version + 1 < 2 ^ 32 }
@@ -279,7 +277,7 @@ impl Catalog {
         &mut self,
         number: u32,
         name: &Name,
-        held: &Held,
+        held: &Analysed,
         in_pieces: bool,
     ) -> Result<(), AllocError>
         requires few { self.old.version + 1 < 2 ^ 32 }
@@ -301,7 +299,7 @@ impl Catalog {
     /// The content that has this name only, where `old` is the number under it, and another one that has this body, if the first one is
     /// to keep its number: where the other one waits, and the first one does not, to change its sets takes less time than to take it out
     /// of all of them; and a small one that is older stays among those that came with it. The other one has at most `FEW_NAMES` names.
-    fn own_beside(&self, name: &Name, old: Option<u32>, held: &Held) -> Option<(u32, u32)>
+    fn own_beside(&self, name: &Name, old: Option<u32>, held: &Analysed) -> Option<(u32, u32)>
         requires { old ≡ number_of name.now self.now.documents }
         ensures { IfSome result (λ found. IsOwn name.now found.0 self.now.documents) }
     {
@@ -350,7 +348,7 @@ impl Catalog {
         &mut self,
         name: &Name,
         old: Option<u32>,
-        held: &Held,
+        held: &Analysed,
         later: bool,
     ) -> Result<(), AllocError>
         requires few { self.old.version + 1 < 2 ^ 32 }
@@ -588,7 +586,7 @@ impl Catalog {
     }
 
     /// The total length of the bodies once the document with this name, and the number `old`, has this one.
-    fn bytes_with(&self, name: &Name, old: Option<u32>, held: &Held) -> u64
+    fn bytes_with(&self, name: &Name, old: Option<u32>, held: &Analysed) -> u64
         requires { old ≡ number_of name.now self.now.documents }
         ensures { result ≡ body_bytes (insert (plain_documents self.now.documents) name.now held.now) }
     {
@@ -773,8 +771,13 @@ impl Catalog {
         Ok(shared)
     }
 
+    /// The allocator of what it keeps.
+    pub(crate) fn allocator(&self) -> Global {
+        *self.store.slots.allocator()
+    }
+
     /// Another handle to the body of a content that is the same as this one, if the hints lead to it.
-    pub(crate) fn held_like(&self, body: &Body) -> Option<Held>
+    pub(crate) fn held_like(&self, body: &Body) -> Option<Analysed>
         ensures { IfSome result (λ held. held ≡ body.now) }
     {
         let number = self.hints.get(&hash_of(body.as_bytes())).copied()?;
@@ -1016,7 +1019,7 @@ fn last_number_under(alloc: Global, numbers: &BTreeMap<Name, u32>, prefix: &Name
         × (get (slice_cmp nat_cmp) numbers.now name ≡ Some number)) }
 {
     let text = prefix.as_bytes();
-    let Some(end) = prefix.end_of_names(alloc) else {
+    let Some(end) = end_of_names(alloc, prefix) else {
         return None;
     };
     if prefix.cmp(&end) != Ordering::Less {
@@ -1083,7 +1086,7 @@ fn put_content(
     store: &mut Store,
     name: &Name,
     number: u32,
-    held: Held,
+    held: Analysed,
     later: bool,
 ) -> Result<(), AllocError>
     requires store { (last : ℕ) × IsStore last store.old × (last < number) }
@@ -1225,7 +1228,7 @@ fn forget(hints: &mut BTreeMap<u64, u32>, hash: Option<u64>, number: u32) {
 }
 
 /// The number of a content with this body, if the hints lead to one.
-fn content_with(hints: &BTreeMap<u64, u32>, slots: &[Slot], held: &Held) -> Option<u32>
+fn content_with(hints: &BTreeMap<u64, u32>, slots: &[Slot], held: &Analysed) -> Option<u32>
     requires { (last : ℕ) × RiseTo last slots.now }
     ensures { IfSome result (λ number. option_map (λ d. d.1) (document_at number (documents_in slots.now)) ≡ Some held.now) }
 {
@@ -1324,7 +1327,7 @@ fn names_of(groups: &BTreeMap<u32, BTreeSet<Name>>, number: u32) -> usize
 fn add_named<W: Watch>(
     names: &BTreeSet<Name>,
     number: u32,
-    held: &Held,
+    held: &Analysed,
     prefixes: &Prefixes,
     shared: &mut Vec<SharedDocument>,
     pace: &mut Pace,
@@ -1345,7 +1348,7 @@ fn add_named<W: Watch>(
 fn add_one(
     name: &Name,
     number: u32,
-    held: &Held,
+    held: &Analysed,
     prefixes: &Prefixes,
     shared: &mut Vec<SharedDocument>,
 ) -> Result<(), AllocError>
@@ -1362,7 +1365,7 @@ fn add_one(
 fn push_document(
     name: &Name,
     number: u32,
-    held: &Held,
+    held: &Analysed,
     shared: &mut Vec<SharedDocument>,
 ) -> Result<(), AllocError>
     ensures { OnOk result (documents_shared shared.new.items ≡ documents_shared shared.old.items ++ document number name.now held.now ∷ []) }
@@ -1370,7 +1373,19 @@ fn push_document(
     shared.push(SharedDocument {
         number,
         name: name.share()?,
-        held: held.share()?,
+        held: held.held()?,
     })?;
     Ok(())
+}
+
+/// The first name of the same length that is behind all names that begin with this one, if there is such a name and memory
+/// for it. No contract depends on it.
+fn end_of_names(alloc: Global, name: &Name) -> Option<Name> {
+    let mut bytes = Vec::from_slice(alloc, name.as_bytes()).ok()?;
+    let next = match bytes.pop()? {
+        126 => 128,
+        last => last.checked_add(1)?,
+    };
+    bytes.push(next).ok()?;
+    Name::within(alloc, bytes.as_slice(), MAX_NAME).ok()
 }

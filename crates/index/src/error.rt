@@ -1,41 +1,7 @@
-//! Why a name, a body or a command is refused.
+//! Why a command is refused.
 
-use crate::body::Body;
-use crate::command::Command;
+use documents::Command;
 use std::alloc::AllocError;
-
-/// Why bytes were not made into a name. The causes are checked in this order.
-#[derive(Clone, Copy, Debug, PartialEq, Eq)]
-pub enum NameError {
-    /// There are no bytes.
-    Empty,
-    /// There are more than a name may have.
-    TooLong,
-    /// A byte is 0 to 32, or 127.
-    BadByte,
-    /// The bytes are a name, but memory ran out.
-    OutOfMemory,
-}
-
-/// Why bytes are not a body of some lengths. The causes are checked in this order.
-#[derive(Clone, Copy, Debug, PartialEq, Eq)]
-pub enum BodyErrorKind {
-    /// There are more than a body of these lengths may have.
-    TooLong,
-    /// A byte is 0.
-    NotText,
-    /// A line is longer than these lengths say, not counting its line feed.
-    LineTooLong,
-}
-
-/// Bytes that are not a body of some lengths, handed back.
-#[derive(Debug, Drop)]
-pub struct BodyError {
-    /// Why the bytes are not a body.
-    pub kind: BodyErrorKind,
-    /// The bytes that were handed in.
-    pub bytes: Vec<u8>,
-}
 
 /// A command that could not be applied, handed back.
 #[derive(Debug, Drop)]
@@ -43,14 +9,5 @@ pub struct ApplyError {
     /// The command that was handed in.
     pub command: Command,
     /// Memory ran out, a name has too many handles, or the copies of a `CopyUnder` are no documents of an index.
-    pub error: AllocError,
-}
-
-/// A body for which memory ran out, handed back.
-#[derive(Debug, Drop)]
-pub struct HeldError {
-    /// The body that was handed in.
-    pub body: Body,
-    /// Memory ran out.
     pub error: AllocError,
 }

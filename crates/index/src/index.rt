@@ -1,21 +1,19 @@
 //! The index: the documents that commands leave.
 
 ghost use Rattle.std.specs.Prelude.{◌≡◌, ◌+◌, ◌^◌, ◌<◌, [], OnOk, OnErr, IfErr, IfOk, IfSome, IsOk, IsTrue, IsFalse, false, option_map};
-ghost use Rattle.index.specs.declared.command.Command.TheVariants.{Put as put_command, Remove as remove_command, RemoveUnder as remove_under_command, CopyUnder as copy_under_command};
+ghost use Rattle.documents.specs.declared.command.Command.TheVariants.{Put as put_command, Remove as remove_command, RemoveUnder as remove_under_command, CopyUnder as copy_under_command};
 ghost use Rattle.watch.specs.CalledOff.{IsCalledOffOnlyIf};
 ghost use Rattle.query.specs.Query.{formula_of};
-ghost use Rattle.index.specs.Documents.{has_under};
+ghost use Rattle.documents.specs.Documents.{has_under};
 ghost use Rattle.std.specs.FinMap.{get, len};
-ghost use Rattle.index.specs.State.{applied, state_of, body_bytes, IsState, IsTakenUnder};
-ghost use Rattle.index.specs.Shared.{AreCandidates};
+ghost use Rattle.documents.specs.State.{applied, state_of, body_bytes, IsState};
+ghost use Rattle.index.specs.Pieces.{IsTakenUnder};
+ghost use Rattle.documents.specs.Shared.{AreCandidates};
 
-use crate::body::Body;
+use crate::analysed::Analysed;
 use crate::catalog::Catalog;
-use crate::command::Command;
-use crate::document::Candidates;
 use crate::error::ApplyError;
-use crate::held::Held;
-use crate::name::Name;
+use documents::{Body, Candidates, Command, Corpus, Held, Name};
 use prefixes::Prefixes;
 use query::Query;
 use std::alloc::{AllocError, Global};
@@ -32,7 +30,7 @@ pub struct Index {
 }
 
 impl Model for Index {
-    ghost use Rattle.index.specs.State.{State, state_code};
+    ghost use Rattle.documents.specs.State.{State, state_code};
     ghost use Rattle.index.specs.Private.Plain.{plain_state};
 
     ghost Value = { State };
@@ -100,8 +98,11 @@ impl Index {
         ensures ok { OnOk result (self.new ≡ applied (put_command name.now body.now) self.old) }
         ensures err { OnErr result (self.new ≡ self.old) }
     {
-        match Held::new(body.copy()?) {
-            Ok(held) => self.apply_put(name, &held),
+        let Ok(held) = Held::new(body.copy()?) else {
+            return Err(AllocError);
+        };
+        match self.analysed(held) {
+            Ok(analysed) => self.apply_put(name, &analysed),
             Err(_) => Err(AllocError),
         }
     }
@@ -109,7 +110,7 @@ impl Index {
     /// Applies the `Put` of this name and body, which the index then shares with the caller. The limit on commands is
     /// that of `apply`. A document that waits with all its trigrams goes on to wait. An `Err` means that memory ran out, or that the
     /// name or the body has too many handles; the index is then as it was.
-    pub fn apply_put(&mut self, name: &Name, held: &Held) -> Result<(), AllocError>
+    pub fn apply_put(&mut self, name: &Name, held: &Analysed) -> Result<(), AllocError>
         requires { self.old.version + 1 < 2 ^ 32 }
         ensures ok { OnOk result (self.new ≡ applied (put_command name.now held.now) self.old) }
         ensures err { OnErr result (self.new ≡ self.old) }
@@ -119,7 +120,7 @@ impl Index {
 
     /// As `apply_put`, but a new document waits to be put into the sets of its trigrams, until `fill` puts all that wait there
     /// together, or `fill_some` one after the other. Until then, between two pieces too, `candidates` answers with an `Err`.
-    pub fn put_later(&mut self, name: &Name, held: &Held) -> Result<(), AllocError>
+    pub fn put_later(&mut self, name: &Name, held: &Analysed) -> Result<(), AllocError>
         requires { self.old.version + 1 < 2 ^ 32 }
         ensures ok { OnOk result (self.new ≡ applied (put_command name.now held.now) self.old) }
         ensures err { OnErr result (self.new ≡ self.old) }
@@ -129,7 +130,7 @@ impl Index {
 
     /// As `apply_put`, but if nothing waits yet and many sets have to change, the document waits, until `fill_some` or `fill` has
     /// changed them: a new one, or one whose body is replaced. If all documents from a number on wait, a new one waits with them.
-    pub fn put_in_pieces(&mut self, name: &Name, held: &Held) -> Result<(), AllocError>
+    pub fn put_in_pieces(&mut self, name: &Name, held: &Analysed) -> Result<(), AllocError>
         requires { self.old.version + 1 < 2 ^ 32 }
         ensures ok { OnOk result (self.new ≡ applied (put_command name.now held.now) self.old) }
         ensures err { OnErr result (self.new ≡ self.old) }
@@ -255,23 +256,6 @@ impl Index {
         self.catalog.copy_some_under(from, to)
     }
 
-    /// The version: the number of commands that were applied.
-    pub fn version(&self) -> u32
-        ensures version { result ≡ self.now.version }
-        ensures state { IsState self.now }
-    {
-        self.catalog.version()
-    }
-
-    /// The number of documents.
-    pub fn documents(&self) -> u32
-        ensures { result ≡ len self.now.documents }
-    {
-        // its contract says that no two documents have the same name
-        let _ = self.catalog.version();
-        self.catalog.documents()
-    }
-
     /// The total length of the documents' bodies, in bytes. A body that several documents have counts for each of them, though the
     /// index holds it once. It holds no other bodies, but for one that documents had while it waits to be taken out of the sets of its
     /// trigrams (`is_filling`).
@@ -289,33 +273,51 @@ impl Index {
         self.catalog.body(name)
     }
 
+    /// The body with its trigrams: those that a document with the same body has, if one is found by its hash, and otherwise they are
+    /// found anew. An `Err` means that memory ran out, and hands the handle back.
+    pub fn analysed(&self, held: Held) -> Result<Analysed, Held>
+        ensures analysed { IfOk result (λ analysed. analysed ≡ held) }
+        ensures returned { IfErr result (λ returned. returned ≡ held) }
+    {
+        match self.held_like(held.body()) {
+            Some(analysed) => Ok(analysed),
+            None => Analysed::new(self.catalog.allocator(), held),
+        }
+    }
+
     /// Another handle to the body of a document that is the same as this one, so that its trigrams need not be found again. `None` does
     /// not say that no document has it: one is found by a hash, and it can have too many handles.
-    pub fn held_like(&self, body: &Body) -> Option<Held>
+    pub fn held_like(&self, body: &Body) -> Option<Analysed>
         ensures { IfSome result (λ held. held ≡ body.now) }
     {
         self.catalog.held_like(body)
     }
+}
 
-    /// How many documents have trigrams that meet the query, and those of them whose names begin with one of the prefixes, in the
-    /// order of their names: all of them, or the first ones, of which there are `most` or more. The cost of finding these
-    /// depends mainly on how many names begin with the prefixes and are gone through until `most` documents are found or,
-    /// if few documents meet the query, on their number; each prefix is looked for once or twice.
-    ///
-    /// `CalledOff` is returned only after `watch.wants()` said `false`, and nothing is asked after that. `OutOfMemory` means that memory
-    /// ran out, that documents wait (`is_filling`), between two pieces or since memory ran out when they were to be put into their
-    /// sets, or that a name or a body has too many handles.
-    pub fn candidates<W: Watch>(
+impl Corpus for Index {
+    ghost state = { λ s. s };
+
+    fn version(&self) -> u32 {
+        self.catalog.version()
+    }
+
+    fn documents(&self) -> u32 {
+        // its contract says that no two documents have the same name
+        let _ = self.catalog.version();
+        self.catalog.documents()
+    }
+
+    /// The cost of finding the documents depends mainly on how many names begin with the prefixes and are gone through until `most`
+    /// are found or, if few documents meet the query, on their number; each prefix is looked for once or twice. Documents that wait
+    /// (`is_filling`), between two pieces or since memory ran out when they were to be put into their sets, cannot be selected yet.
+    fn candidates<W: Watch>(
         &self,
         alloc: Global,
         query: &Query,
         prefixes: &Prefixes,
         most: usize,
         watch: &mut W,
-    ) -> Result<Candidates, Unanswered>
-        ensures candidates { IfOk result (λ found. AreCandidates (formula_of query.now) prefixes.now most self.now.documents found) }
-        ensures called_off { IfErr result (IsCalledOffOnlyIf (W.has_said_no watch.new)) }
-    {
+    ) -> Result<Candidates, Unanswered> {
         let _ = self.catalog.version();
         let _ = self.catalog.documents();
         let (chosen, count) = self.catalog.candidates(alloc, query, watch)?;

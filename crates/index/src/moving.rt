@@ -9,8 +9,8 @@ ghost use Rattle.index.specs.Private.Moving.{AreMoves, IsMove};
 ghost use Rattle.index.specs.Private.Slots.{documents_in, RiseTo};
 
 use crate::copying::Copied;
-use crate::name::Name;
 use crate::slots::{Slot, occupant_at};
+use documents::Name;
 use std::alloc::{AllocError, Global};
 use std::collections::{BTreeMap, BTreeSet};
 

@@ -6,7 +6,7 @@ ghost use Rattle.posting.specs.Postings.{holds, SameSets, IsPrepared, IsAbsent, 
 ghost use Rattle.index.specs.declared.sets.Waiting.TheVariants.{From};
 ghost use Rattle.index.specs.Private.Sets.{HasRoomFor, IsNew, IsChange, FollowTakenOut, StayInStep, StayInStepNext, ReachesNext, IsAmongWaiting, WaitsWhole, waiting_from, trigrams_before, is_whole, NoneIsLeft};
 
-use crate::held::Held;
+use crate::analysed::Analysed;
 use posting::{List, Postings, Trigrams};
 use std::alloc::{AllocError, Global};
 
@@ -31,7 +31,7 @@ pub(crate) enum Waiting {
     One {
         number: u32,
         from: u32,
-        old: Option<Held>,
+        old: Option<Analysed>,
     },
     /// Those from the number `first` on, which are in no sets but those of their trigrams. The one with that number, if there is one,
     /// is in those below `from`.
@@ -115,7 +115,7 @@ impl Sets {
 
     /// Takes out the document with this number and this body. If `later` is asked for and nothing waits yet, its number waits to be
     /// taken out of the sets of its trigrams.
-    pub(crate) fn take_out(&mut self, number: u32, held: Held, later: bool)
+    pub(crate) fn take_out(&mut self, number: u32, held: Analysed, later: bool)
         ensures live { self.new.live.members ≡ without number self.old.live.members }
         ensures sets { FollowTakenOut number held self.old self.new }
     {
@@ -299,7 +299,7 @@ fn reach(waiting: &mut Option<Waiting>, next: Option<u32>)
 }
 
 /// The trigrams of the body before, if there is one, and no trigrams otherwise.
-fn trigrams_of_old<'a>(old: &'a Option<Held>, none: &'a Trigrams) -> &'a Trigrams
+fn trigrams_of_old<'a>(old: &'a Option<Analysed>, none: &'a Trigrams) -> &'a Trigrams
     requires { none.now ≡ [] }
     ensures { (t : ℕ) → has result.now t ≡ trigrams_before old.now t }
 {

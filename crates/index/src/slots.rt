@@ -6,8 +6,8 @@ ghost use Rattle.index.specs.declared.slots.Slot.{Slot as SlotValue};
 ghost use Rattle.index.specs.Private.Numbered.{document_at};
 ghost use Rattle.index.specs.Private.Slots.{documents_in, numbers_in, RiseTo, FewAreEmpty, texts_of, without_number, with_body_at};
 
-use crate::held::Held;
-use crate::name::Name;
+use crate::analysed::Analysed;
+use documents::Name;
 use std::mem::replace;
 
 /// The name and the body of a document.
@@ -16,7 +16,7 @@ pub(crate) struct Occupant {
     /// The name.
     pub(crate) name: Name,
     /// The body, with its trigrams.
-    pub(crate) held: Held,
+    pub(crate) held: Analysed,
 }
 
 /// The slot of a document. It stays, empty, when the document is removed, so that a removal need not move the others.
@@ -89,7 +89,7 @@ pub(crate) fn take(slots: &mut Vec<Slot>, number: u32) -> Option<Occupant>
 }
 
 /// Replaces the body of the document with this number, if there is one. Returns the body that it had.
-pub(crate) fn exchange(slots: &mut [Slot], number: u32, held: Held) -> Option<Held>
+pub(crate) fn exchange(slots: &mut [Slot], number: u32, held: Analysed) -> Option<Analysed>
     requires { (last : ℕ) × RiseTo last slots.old }
     ensures held { result ≡ option_map (λ d. d.1) (document_at number (documents_in slots.old)) }
     ensures documents { documents_in slots.new ≡ map (with_body_at number held) (documents_in slots.old) }

@@ -9,7 +9,7 @@ ghost use Rattle.index.specs.Private.Sets.{is_waiting, trigrams_at, IsAmongWaiti
 ghost use Rattle.index.specs.Private.Slots.{documents_in, documents_of_slot, without_number, with_body_at, RiseTo};
 ghost use Rattle.index.specs.Private.Store.{stored, IsStore, HasPlaceFor, IsReadyFor};
 
-use crate::held::Held;
+use crate::analysed::Analysed;
 use crate::sets::{Change, Sets, Waiting};
 use crate::slots::{Occupant, Slot, compact, exchange, give_back, number_from, occupant_at, take};
 use posting::{Entry, Trigrams, WHOLE};
@@ -405,7 +405,7 @@ impl Store {
 
     /// Replaces the body of the document with this number, for which there is room. Where `fill` follows, and
     /// too much was taken out, as `take_out` says, all documents wait.
-    pub(crate) fn replace(&mut self, number: u32, change: &Change, held: Held)
+    pub(crate) fn replace(&mut self, number: u32, change: &Change, held: Analysed)
         requires store { (last : ℕ) × IsStore last self.old }
         requires room { IsReadyFor self.old number held change.now }
         requires bytes { body_bytes (stored self.old) + length held < 2 ^ 64 }
@@ -429,7 +429,7 @@ impl Store {
 
     /// Replaces the body of the document with this number, which is one of those from some number on that wait, and goes on to wait
     /// with all its trigrams. It needs no memory.
-    pub(crate) fn replace_later(&mut self, number: u32, held: Held)
+    pub(crate) fn replace_later(&mut self, number: u32, held: Analysed)
         requires store { (last : ℕ) × IsStore last self.old }
         requires there { IsSome (document_at number (stored self.old)) }
         requires waits { IsAmongWaiting number self.old.sets.waiting }
@@ -448,7 +448,7 @@ impl Store {
 
     /// Replaces the body of the document with this number. Its number then waits to be moved to the sets of the trigrams of the new
     /// one. Nothing waits yet.
-    pub(crate) fn replace_in_pieces(&mut self, number: u32, held: Held)
+    pub(crate) fn replace_in_pieces(&mut self, number: u32, held: Analysed)
         requires store { (last : ℕ) × IsStore last self.old }
         requires idle { self.old.sets.waiting ≡ None }
         requires there { IsSome (document_at number (stored self.old)) }
@@ -474,7 +474,7 @@ impl Store {
     pub(crate) fn replace_body(
         &mut self,
         number: u32,
-        held: Held,
+        held: Analysed,
         in_pieces: bool,
     ) -> Result<(), AllocError>
         requires store { (last : ℕ) × IsStore last self.old }
@@ -520,12 +520,12 @@ fn trigrams_of<'a>(slots: &'a [Slot], number: u32, none: &'a Trigrams) -> &'a Tr
 }
 
 /// So many bytes, and those in which the trigrams of this body are kept.
-fn more_by(bytes: usize, held: &Held) -> usize {
+fn more_by(bytes: usize, held: &Analysed) -> usize {
     bytes.saturating_add(held.trigrams().size())
 }
 
 /// So many bytes without those in which the trigrams of this body are kept.
-fn less_by(bytes: usize, held: &Held) -> usize {
+fn less_by(bytes: usize, held: &Analysed) -> usize {
     bytes.saturating_sub(held.trigrams().size())
 }
 

@@ -5,7 +5,7 @@ use Rattle.cli.specs.CommandLine.{AskForHelp, AskForVersion, IsRefusalOf, SpellS
 use Rattle.cli.specs.declared.arguments.Settings.{Settings}
 use Rattle.cli.specs.declared.error.ArgumentError.{ArgumentError}
 use Rattle.cli.specs.declared.help.TheConstants.{HELP, VERSION}
-use Rattle.index.specs.declared.lengths.Lengths.{Lengths}
+use Rattle.documents.specs.declared.lengths.Lengths.{Lengths}
 use Rattle.tsearch.specs.Served.{IsBroken, IsServed}
 use Rattle.tsearch.specs.declared.serving.LiveOptions.{LiveOptions}
 use Rattle.tsearch.specs.Legal.{IsLegal}

@@ -11,7 +11,7 @@ use crate::output::{show, write_text};
 use crate::read::read_script;
 use crate::session::serve_session;
 use cli::{HELP, Request, Settings, VERSION, read_arguments};
-use index::Lengths;
+use documents::Lengths;
 use std::alloc::Global;
 use std::io::{Read, Write};
 use std::sync::Wait;

@@ -2,15 +2,15 @@
 
 ghost use Rattle.std.specs.Prelude.{◌≡◌, List, [], ◌∷◌, ◌++◌, IfSome};
 ghost use mathlib.Core.List.{IsPrefix};
-ghost use Rattle.index.specs.declared.command.Command.{Command as CommandValue};
-ghost use Rattle.index.specs.declared.command.Command.TheVariants.{Put};
-ghost use Rattle.index.specs.State.{state_of};
+ghost use Rattle.documents.specs.declared.command.Command.{Command as CommandValue};
+ghost use Rattle.documents.specs.declared.command.Command.TheVariants.{Put};
+ghost use Rattle.documents.specs.State.{state_of};
 ghost use Rattle.prepare.specs.Prepared.{pattern_of};
-ghost use Rattle.search.specs.Scan.{IsAnswerOf};
+ghost use Rattle.views.specs.Scan.{IsAnswerOf};
 ghost use Rattle.published.specs.History.{known};
 
 use crate::fixtures::{body, name, prepared, search};
-use index::{Body, Name};
+use documents::{Body, Name};
 use prepare::Prepared;
 use published::{Desk, Reading, Told, open};
 use std::alloc::Global;

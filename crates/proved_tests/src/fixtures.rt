@@ -2,12 +2,12 @@
 
 ghost use Rattle.std.specs.Prelude.{◌≡◌, IfSome};
 ghost use mathlib.Core.List.{IsPrefix};
-ghost use Rattle.index.specs.State.{state_of};
+ghost use Rattle.documents.specs.State.{state_of};
 ghost use Rattle.prepare.specs.Prepared.{pattern_of, request_of};
-ghost use Rattle.search.specs.Scan.{IsAnswerOf};
+ghost use Rattle.views.specs.Scan.{IsAnswerOf};
 ghost use Rattle.search.specs.Taken.{IsTakenOf};
 
-use index::{Body, Name};
+use documents::{Body, Name};
 use prepare::Prepared;
 use published::Reading;
 use search::{Taken, Watch};

@@ -1,16 +1,17 @@
 //! Searches on one thread, and searches that leave the index before they match.
 
 ghost use Rattle.std.specs.Prelude.{[], ◌∷◌, IfOk};
-ghost use Rattle.index.specs.declared.command.Command.TheVariants.{Put};
-ghost use Rattle.index.specs.State.{state_of};
+ghost use Rattle.documents.specs.declared.command.Command.TheVariants.{Put};
+ghost use Rattle.documents.specs.State.{state_of};
 ghost use Rattle.ere.specs.declared.case.Case.TheVariants.{Exact};
 ghost use Rattle.prepare.specs.Pattern.{Pattern, IsPatternOf};
 ghost use Rattle.prepare.specs.Request.{all_lines_of};
-ghost use Rattle.search.specs.Scan.{IsAnswerOf};
-ghost use Rattle.search.specs.Shown.{IsShownOf};
+ghost use Rattle.views.specs.Scan.{IsAnswerOf};
+ghost use Rattle.views.specs.ShownOf.{IsShownOf};
 
 use crate::fixtures::{Always, document, is_text};
-use index::{Body, Command, Index, Name};
+use documents::{Body, Command, Name};
+use index::Index;
 use prepare::Prepared;
 use search::{find, take};
 use std::alloc::{AllocError, Global};

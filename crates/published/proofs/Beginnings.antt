@@ -3,7 +3,7 @@ use Rattle.std.proofs.Common.{Bool, true, false, List, ◌<◌, length, ap, sym,
 use Rattle.std.proofs.lemmas.Grind.{flat_map-append}
 use Rattle.std.specs.Prelude.{MatchBool}
 use mathlib.Core.List.{IsPrefix}
-use Rattle.index.specs.declared.command.Command.{Command}
+use Rattle.documents.specs.declared.command.Command.{Command}
 use Rattle.published.specs.Private.Batches.{joined}
 
 -- the commands of a beginning begin those of the whole

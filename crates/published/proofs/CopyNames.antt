@@ -7,9 +7,9 @@ use Rattle.std.proofs.lemmas.List.{map-append, take-append-drop, take_more}
 use Rattle.std.proofs.lemmas.List.Elements.{filter-append}
 use Rattle.std.proofs.lemmas.List.Folds.{list_any-append}
 use Rattle.prefixes.specs.Under.{begins_with}
-use Rattle.index.specs.Documents.{renamed}
-use Rattle.index.proofs.DocumentLemmas.{same_name}
-use Rattle.index.proofs.RenamedLemmas.{renamed_to, other_name}
+use Rattle.documents.specs.Documents.{renamed}
+use Rattle.documents.proofs.ElementLemmas.{same_name}
+use Rattle.documents.proofs.RenamedLemmas.{renamed_to, other_name}
 use Rattle.published.specs.Private.Names.{has_name, is_one_of, new_copies, names_under}
 use Rattle.published.specs.declared.names.Names.{Names}
 use Rattle.published.proofs.UnderNames.{any_same, begun_with, ended_by}

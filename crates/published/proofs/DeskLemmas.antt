@@ -5,9 +5,9 @@ use Rattle.std.specs.Prelude.{bytes_eq}
 use Rattle.std.proofs.lemmas.List.{length-take, take-append-le}
 use Rattle.std.proofs.Math.Seq.{take-length}
 use Rattle.prefixes.specs.Under.{begins_with}
-use Rattle.index.specs.declared.command.Command.{Command}
-use Rattle.index.specs.declared.command.Command.TheVariants.{Put, Remove, RemoveUnder, CopyUnder}
-use Rattle.index.specs.Documents.{renamed}
+use Rattle.documents.specs.declared.command.Command.{Command}
+use Rattle.documents.specs.declared.command.Command.TheVariants.{Put, Remove, RemoveUnder, CopyUnder}
+use Rattle.documents.specs.Documents.{renamed}
 use Rattle.published.specs.History.{Known}
 use Rattle.published.specs.Private.Names.{has_name, is_one_of, new_copies, names_under}
 use Rattle.published.specs.Desk.{DeskState, desk_state, with_command, has_document}

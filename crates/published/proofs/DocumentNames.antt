@@ -10,12 +10,12 @@ use Rattle.std.specs.FinMap.{get, get-empty, keys, contains_key-keys}
 use Rattle.std.specs.Ordering.{nat_cmp, eq_by_cmp}
 use Rattle.std.specs.List.{list_any}
 use Rattle.prefixes.specs.Under.{begins_with}
-use Rattle.index.specs.declared.command.Command.{Command}
-use Rattle.index.specs.declared.command.Command.TheVariants.{Put, Remove, RemoveUnder, CopyUnder}
-use Rattle.index.specs.Documents.{documents_of, renamed}
-use Rattle.index.proofs.LawLemmas.{get-put, get-removed, get-removed_under}
-use Rattle.index.proofs.RenamedLemmas.{one_or_other, get-copied}
-use Rattle.index.proofs.StateLemmas.{state_of-push}
+use Rattle.documents.specs.declared.command.Command.{Command}
+use Rattle.documents.specs.declared.command.Command.TheVariants.{Put, Remove, RemoveUnder, CopyUnder}
+use Rattle.documents.specs.Documents.{documents_of, renamed}
+use Rattle.documents.proofs.LawLemmas.{get-put, get-removed, get-removed_under}
+use Rattle.documents.proofs.RenamedLemmas.{one_or_other, get-copied}
+use Rattle.documents.proofs.StateLemmas.{state_of-push}
 use Rattle.published.specs.Desk.{has_document, has_document_under, has_document_too_long}
 use Rattle.published.specs.Private.DeskParts.{HasNamesOf}
 use Rattle.published.specs.Private.Names.{has_long_copy, has_name_under}

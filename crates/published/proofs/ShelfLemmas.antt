@@ -2,9 +2,9 @@
 use Rattle.std.proofs.Common.{◌≡◌, List, [], ◌∷◌, ◌++◌, fold, refl, sym, ap, ◌∙◌, append_assoc}
 use Rattle.std.proofs.lemmas.List.{append-nil}
 use Rattle.std.proofs.lemmas.Grind.{fold-append}
-use Rattle.index.specs.declared.command.Command.{Command}
-use Rattle.index.specs.State.{State, applied, state_of}
-use Rattle.index.proofs.StateLemmas.{state_of-push}
+use Rattle.documents.specs.declared.command.Command.{Command}
+use Rattle.documents.specs.State.{State, applied, state_of}
+use Rattle.documents.proofs.StateLemmas.{state_of-push}
 use Rattle.published.specs.History.{Known}
 use Rattle.published.specs.declared.shelf.Update.{Update}
 use Rattle.published.specs.declared.shelf.Operation.{Operation}

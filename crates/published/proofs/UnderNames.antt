@@ -15,7 +15,7 @@ use Rattle.std.proofs.lemmas.List.Sums.{take_while-cons}
 use Rattle.std.proofs.lemmas.Map.Keys.{sorted_head, sorted_tail}
 use Rattle.std.proofs.lemmas.Map.Views.{any-filter_same}
 use Rattle.prefixes.specs.Under.{begins_with}
-use Rattle.index.proofs.DocumentLemmas.{same_name, bytes_eq-sym}
+use Rattle.documents.proofs.ElementLemmas.{same_name, bytes_eq-sym}
 use Rattle.index.proofs.UnderLemmas.{none_behind}
 use Rattle.prefixes.proofs.UnderLemmas.{begins_le}
 

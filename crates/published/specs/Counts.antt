@@ -1,7 +1,7 @@
 -- How much an index holds.
 use Rattle.std.specs.Prelude.{◌≡◌}
 use Rattle.std.specs.FinMap.{len}
-use Rattle.index.specs.State.{State, body_bytes}
+use Rattle.documents.specs.State.{State, body_bytes}
 use Rattle.published.specs.declared.counts.Counts.{Counts}
 
 pub record AreCountsOf (state : State) (counts : Counts) : Type 0 where

@@ -1,8 +1,8 @@
 -- What a desk has accepted and published.
 use Rattle.std.specs.Prelude.{◌≡◌, ℕ, ◌<◌, Bool, true, false, List, [], ◌∷◌, ◌++◌, length}
 use Rattle.logbook.specs.Pages.{Book}
-use Rattle.index.specs.declared.command.Command.{Command}
-use Rattle.index.specs.Documents.{documents_of, is_taken, has_under, has_long_copy}
+use Rattle.documents.specs.declared.command.Command.{Command}
+use Rattle.documents.specs.Documents.{documents_of, is_taken, has_under, has_long_copy}
 use Rattle.published.specs.declared.error.PutErrorKind.{PutErrorKind}
 use Rattle.published.specs.declared.error.PutErrorKind.TheVariants as put_error
 use Rattle.published.specs.declared.error.RemoveError.{RemoveError}

@@ -1,7 +1,7 @@
 -- What is known of an opening.
 use Rattle.std.specs.Prelude.{List}
 use Rattle.logbook.specs.Pages.{Book}
-use Rattle.index.specs.declared.command.Command.{Command}
+use Rattle.documents.specs.declared.command.Command.{Command}
 
 -- The first commands of an opening's history, as many as are known. The opening is named by the book that has the
 -- history.

@@ -6,7 +6,7 @@ ghost use mathlib.Core.List.{IsPrefix};
 ghost use Rattle.history.specs.History.{head_of};
 ghost use Rattle.published.specs.History.{known};
 
-use index::Command;
+use documents::Command;
 use logbook::Plain;
 use std::marker::Model;
 

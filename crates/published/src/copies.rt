@@ -2,7 +2,7 @@
 
 ghost use Rattle.std.specs.Prelude.{◌≡◌, [], ◌∷◌, ◌++◌, IfErr, OnOk, OnErr, MatchResult};
 ghost use denote.Param.Send.{IsSync};
-ghost use Rattle.index.specs.declared.command.Command.TheVariants.{Put as put_command};
+ghost use Rattle.documents.specs.declared.command.Command.TheVariants.{Put as put_command};
 ghost use Rattle.published.specs.Private.Shelf.{command_of};
 ghost use Rattle.published.specs.Private.Copies.{InStep, copies_state};
 
@@ -11,7 +11,7 @@ use crate::log::Log;
 use crate::rule::{Both, Meet};
 use crate::shelf::{Operation, Update};
 use core::mem::replace_with;
-use index::{Body, Name};
+use documents::{Body, Name};
 use std::alloc::{AllocError, Global};
 use std::marker::Model;
 use std::sync::Wait;

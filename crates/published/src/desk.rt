@@ -1,9 +1,9 @@
 //! The desk: it accepts commands, and publishes them.
 
 ghost use Rattle.std.specs.Prelude.{◌≡◌, ℕ, ◌≤◌, List, [], length, true, false, IfSome, IfOk, IfErr, OnOk, OnErr, MatchBool};
-ghost use Rattle.index.specs.declared.command.Command.TheVariants.{Put as put_command, Remove as remove_command, RemoveUnder as remove_under_command, CopyUnder as copy_under_command};
+ghost use Rattle.documents.specs.declared.command.Command.TheVariants.{Put as put_command, Remove as remove_command, RemoveUnder as remove_under_command, CopyUnder as copy_under_command};
 ghost use Rattle.published.specs.History.{known};
-ghost use Rattle.index.specs.Text.{most_name_bytes};
+ghost use Rattle.documents.specs.Text.{most_name_bytes};
 ghost use Rattle.history.specs.History.{head_of};
 ghost use Rattle.published.specs.Private.Names.{has_name};
 ghost use Rattle.published.specs.Private.Copies.{copies_state};
@@ -17,7 +17,7 @@ use crate::error::{CopyError, PutError, PutErrorKind, RemoveError};
 use crate::names::Names;
 use crate::shelf::Update;
 use crate::told::Told;
-use index::{Body, MAX_NAME, Name};
+use documents::{Body, MAX_NAME, Name};
 use logbook::Plain;
 use std::alloc::AllocError;
 use std::marker::Model;

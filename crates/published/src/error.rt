@@ -1,6 +1,6 @@
 //! Why a call is refused.
 
-use index::{Body, Name};
+use documents::{Body, Name};
 use std::alloc::{AllocError, AllocFailed};
 
 /// Why an opening is refused.

@@ -3,16 +3,17 @@
 ghost use Rattle.std.specs.Prelude.{◌≡◌, IfSome};
 
 use core::mem::replace_with;
-use index::{Body, Held, Index};
+use documents::Held;
+use index::{Analysed, Index};
 use std::marker::Model;
 
 /// How far the body of a put has come.
 #[derive(Drop)]
 pub enum Stage {
     /// It is as it was handed in.
-    Plain(Body),
+    Plain(Held),
     /// Its trigrams are found.
-    Analysed(Held),
+    Analysed(Analysed),
 }
 
 /// The body of a put. Its trigrams are found once, by the publish that shows it.
@@ -34,11 +35,11 @@ impl Model for Incoming {
 
 impl Incoming {
     /// The body, not analysed yet.
-    pub(crate) fn new(body: Body) -> Incoming
-        ensures { result ≡ body }
+    pub(crate) fn new(held: Held) -> Incoming
+        ensures { result ≡ held }
     {
         Incoming {
-            stage: Stage::Plain(body),
+            stage: Stage::Plain(held),
         }
     }
 
@@ -47,61 +48,47 @@ impl Incoming {
     pub(crate) fn analyse(&mut self, index: &Index)
         ensures { self.new ≡ self.old }
     {
-        if let Some(held) = self.like(index) {
-            self.stage = Stage::Analysed(held);
-            return;
-        }
         replace_with(
             self,
-            (),
-            |incoming: Incoming, _: ()| -> (Incoming, ())
+            index,
+            |incoming: Incoming, index: &Index| -> (Incoming, ())
                 ensures { result.0 ≡ incoming }
-            { (incoming.analysed(), ()) },
+            { (incoming.analysed(index), ()) },
         );
     }
 
-    /// The body with its trigrams, if it has none yet and a document of the index has the same.
-    fn like(&self, index: &Index) -> Option<Held>
-        ensures { IfSome result (λ held. held ≡ self.now) }
-    {
-        match &self.stage {
-            Stage::Plain(body) => index.held_like(body),
-            Stage::Analysed(_) => None,
-        }
-    }
-
-    fn analysed(self) -> Incoming
+    fn analysed(self, index: &Index) -> Incoming
         ensures { result ≡ self }
     {
         let Incoming { stage } = self;
         match stage {
-            Stage::Plain(body) => match Held::new(body) {
-                Ok(held) => Incoming {
-                    stage: Stage::Analysed(held),
+            Stage::Plain(held) => match index.analysed(held) {
+                Ok(analysed) => Incoming {
+                    stage: Stage::Analysed(analysed),
                 },
-                Err(refused) => Incoming::new(refused.body),
+                Err(held) => Incoming::new(held),
             },
-            Stage::Analysed(held) => Incoming {
-                stage: Stage::Analysed(held),
+            Stage::Analysed(analysed) => Incoming {
+                stage: Stage::Analysed(analysed),
             },
         }
     }
 
     /// The body with its trigrams. `None` means that they are not found yet.
-    pub(crate) fn held(&self) -> Option<&Held>
-        ensures { IfSome result (λ held. held.now ≡ self.now) }
+    pub(crate) fn with_trigrams(&self) -> Option<&Analysed>
+        ensures { IfSome result (λ analysed. analysed.now ≡ self.now) }
     {
         match &self.stage {
             Stage::Plain(_) => None,
-            Stage::Analysed(held) => Some(held),
+            Stage::Analysed(analysed) => Some(analysed),
         }
     }
 
     /// The number of bytes of the body.
     pub(crate) fn len(&self) -> usize {
         match &self.stage {
-            Stage::Plain(body) => body.as_bytes().len(),
-            Stage::Analysed(held) => held.body().as_bytes().len(),
+            Stage::Plain(held) => held.body().as_bytes().len(),
+            Stage::Analysed(analysed) => analysed.body().as_bytes().len(),
         }
     }
 }

@@ -8,7 +8,7 @@ ghost use Rattle.published.specs.Private.Shelf.{operated};
 use crate::filling::carry_out_all;
 use crate::incoming::Incoming;
 use crate::shelf::{Operation, Shelf, Update};
-use index::{Body, Name};
+use documents::{Body, Held, Name};
 use std::alloc::{AllocError, Global};
 use std::collections::VecDeque;
 use std::thread::Threads;
@@ -64,7 +64,11 @@ impl Log {
         if self.pending.reserve(1).is_err() {
             return Err(body);
         }
-        let update = Update::Put(name, Incoming::new(body));
+        let held = match Held::new(body) {
+            Ok(held) => held,
+            Err(refused) => return Err(refused.body),
+        };
+        let update = Update::Put(name, Incoming::new(held));
         self.pending.push_back_reserved(Operation::Change(update));
         Ok(())
     }

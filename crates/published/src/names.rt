@@ -4,9 +4,9 @@ ghost use Rattle.std.specs.Prelude.{◌≡◌, ℕ, List, [], ◌∷◌, ◌++�
 ghost use Rattle.prefixes.specs.Under.{begins_with};
 ghost use Rattle.std.specs.List.{list_any};
 ghost use Rattle.published.specs.Private.Names.{has_name, has_long_copy, has_name_under, is_one_of, names_under, new_copies};
-ghost use Rattle.index.specs.Documents.{renamed};
+ghost use Rattle.documents.specs.Documents.{renamed};
 
-use index::Name;
+use documents::Name;
 use std::alloc::{AllocError, Global};
 use std::collections::BTreeSet;
 use std::ops::Bound;

@@ -3,7 +3,7 @@
 ghost use Rattle.std.specs.Prelude.{◌≡◌, ◌<◌, ◌≤◌, [], Some, All, IfOk, length};
 ghost use Rattle.left_right.specs.Sides.{view};
 ghost use Rattle.published.specs.History.{known};
-ghost use Rattle.index.specs.State.{state_of};
+ghost use Rattle.documents.specs.State.{state_of};
 ghost use Rattle.published.specs.Desk.{desk_state};
 
 use crate::batches::Front;

@@ -4,7 +4,7 @@ ghost use Rattle.std.specs.Prelude.{◌≡◌, ◌⊎◌, true, Some, length, If
 ghost use mathlib.Core.List.{IsPrefix};
 ghost use Rattle.left_right.specs.Sides.{view};
 ghost use Rattle.logbook.specs.Pages.{Book};
-ghost use Rattle.index.specs.State.{state_of};
+ghost use Rattle.documents.specs.State.{state_of};
 ghost use Rattle.std.specs.Fn.{FnOnceReturnsAt};
 ghost use Rattle.published.specs.Counts.{AreCountsOf};
 ghost use Rattle.published.specs.Private.Rule.{HasMet};
@@ -15,6 +15,7 @@ use crate::error::OpenError;
 use crate::rule::{Both, Meet, Note, ShelfReader};
 use crate::told::Told;
 use core::mem::replace_with;
+use documents::Corpus;
 use index::Index;
 use std::marker::{Model, PhantomData};
 

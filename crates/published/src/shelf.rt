@@ -2,13 +2,14 @@
 //! each operation is carried out on both.
 
 ghost use Rattle.std.specs.Prelude.{◌≡◌, ◌+◌, ◌^◌, ◌<◌, ◌≤◌, OnOk, OnErr, IfOk, IfSome, IfNone, MatchBool};
-ghost use Rattle.index.specs.declared.command.Command.TheVariants.{Put as put_command};
-ghost use Rattle.index.specs.State.{applied};
+ghost use Rattle.documents.specs.declared.command.Command.TheVariants.{Put as put_command};
+ghost use Rattle.documents.specs.State.{applied};
 ghost use Rattle.published.specs.Private.Shelf.{command_of};
 
 use crate::batches::Front;
 use crate::incoming::Incoming;
-use index::{Held, Index, Name};
+use documents::{Corpus, Name};
+use index::{Analysed, Index};
 use left_right::Absorb;
 use std::alloc::AllocError;
 use std::thread::Threads;
@@ -89,7 +90,7 @@ impl Operation {
     /// The bytes of the body that it brings, if that is not analysed yet.
     pub(crate) fn bytes_to_analyse(&self) -> usize {
         match self {
-            Operation::Change(Update::Put(_, incoming)) if incoming.held().is_none() => {
+            Operation::Change(Update::Put(_, incoming)) if incoming.with_trigrams().is_none() => {
                 incoming.len()
             }
             _ => 0,
@@ -107,7 +108,7 @@ impl Operation {
     /// Whether it can be carried out: a body that it brings is analysed.
     pub(crate) fn is_ready(&self) -> bool {
         match self {
-            Operation::Change(Update::Put(_, incoming)) => incoming.held().is_some(),
+            Operation::Change(Update::Put(_, incoming)) => incoming.with_trigrams().is_some(),
             _ => true,
         }
     }
@@ -243,8 +244,8 @@ fn change(index: &mut Index, update: &Update, way: Way) -> Result<(), AllocError
         return Err(AllocError);
     }
     match update {
-        Update::Put(name, incoming) => match incoming.held() {
-            Some(held) => put(index, name, held, way),
+        Update::Put(name, incoming) => match incoming.with_trigrams() {
+            Some(analysed) => put(index, name, analysed, way),
             None => Err(AllocError),
         },
         Update::Remove(name) => match way {
@@ -256,15 +257,15 @@ fn change(index: &mut Index, update: &Update, way: Way) -> Result<(), AllocError
     }
 }
 
-fn put(index: &mut Index, name: &Name, held: &Held, way: Way) -> Result<(), AllocError>
+fn put(index: &mut Index, name: &Name, analysed: &Analysed, way: Way) -> Result<(), AllocError>
     requires { index.old.version + 1 < 2 ^ 32 }
-    ensures ok { OnOk result (index.new ≡ applied (put_command name.now held.now) index.old) }
+    ensures ok { OnOk result (index.new ≡ applied (put_command name.now analysed.now) index.old) }
     ensures err { OnErr result (index.new ≡ index.old) }
 {
     match way {
-        Way::AtOnce => index.apply_put(name, held),
-        Way::Together => index.put_later(name, held),
-        Way::InPieces => index.put_in_pieces(name, held),
+        Way::AtOnce => index.apply_put(name, analysed),
+        Way::Together => index.put_later(name, analysed),
+        Way::InPieces => index.put_in_pieces(name, analysed),
     }
 }
 

@@ -8,12 +8,12 @@ use Rattle.std.specs.Cmp.Lexicographic.{slice_cmp}
 use Rattle.std.specs.List.Sorted.{IsStrictlySortedBy}
 use Rattle.std.specs.declared.cmp.Ordering.TheVariants.{Less}
 use Rattle.std.proofs.lemmas.Map.Text.{is_eq-slice_cmp}
-use Rattle.index.specs.Documents.{Document, RisesByName, listed}
-use Rattle.index.specs.Shared.{document_of, documents_shared}
-use Rattle.index.specs.State.{State}
-use Rattle.index.specs.declared.document.SharedDocument.{SharedDocument}
-use Rattle.index.proofs.ListedLemmas.{names_differ}
-use Rattle.index.proofs.DocumentLemmas.{Contains-cons, Contains-head, Contains-tail, bytes_eq-refl, bytes_eq-sym, filter-Contains, same_name}
+use Rattle.documents.specs.Documents.{Document, RisesByName, listed}
+use Rattle.documents.specs.Shared.{document_of, documents_shared}
+use Rattle.documents.specs.State.{State}
+use Rattle.documents.specs.declared.document.SharedDocument.{SharedDocument}
+use Rattle.documents.proofs.ListedLemmas.{names_differ}
+use Rattle.documents.proofs.ElementLemmas.{Contains-cons, Contains-head, Contains-tail, bytes_eq-refl, bytes_eq-sym, filter-Contains, same_name}
 use Rattle.query.specs.Trigrams.{trigrams_of_body}
 use Rattle.request.specs.declared.options.View.{View}
 use Rattle.request.specs.declared.options.View.TheVariants as view
@@ -22,14 +22,14 @@ use Rattle.prepare.specs.Prepared.{pattern_of, request_of}
 use Rattle.search.specs.Private.Gathered.{AreGathered, Gathers, HaveBodies, HaveOwnNames, Joins, shown_with, kept_of, trimmed, with_limit}
 use Rattle.prepare.specs.Request.{Request}
 use Rattle.views.specs.Found.{Hit}
-use Rattle.search.specs.Scan.{IsScanOf, candidates_of}
+use Rattle.views.specs.Scan.{IsScanOf, candidates_of}
 use Rattle.prepare.specs.Queries.{can_have}
 use Rattle.search.specs.Private.Documents.{lines_of_taken}
 use Rattle.search.specs.Selects.{Selects, IsAsked, IsAdmitted}
 use Rattle.prepare.specs.Tests.{test_of}
 use Rattle.views.specs.Text.{text_of_rows}
-use Rattle.search.specs.Shown.{IsShownOf}
-use Rattle.search.specs.Rows.{AreRows, at_most, body_of, is_over, limited, total}
+use Rattle.views.specs.ShownOf.{IsShownOf}
+use Rattle.views.specs.Rows.{AreRows, at_most, body_of, is_over, limited, total}
 use Rattle.views.specs.View.{Row}
 use Rattle.search.specs.declared.gathered.Gathered.{Gathered}
 use Rattle.search.specs.declared.gathered.Wanted.{Wanted}

@@ -7,10 +7,10 @@ use Rattle.std.proofs.lemmas.List.Elements.{filter_agree}
 use Rattle.std.proofs.lemmas.List.Kept.{IsStrictlySortedBy-filter}
 use Rattle.query.specs.Trigrams.{TrigramSet, trigrams_of_body}
 use Rattle.query.specs.Query.{Formula, is_met}
-use Rattle.index.specs.declared.document.SharedDocument.{SharedDocument}
-use Rattle.index.specs.Documents.{Document, RisesByName, listed, meets, is_under_any}
-use Rattle.index.specs.Shared.{document_of, documents_shared}
-use Rattle.index.specs.State.{State}
+use Rattle.documents.specs.declared.document.SharedDocument.{SharedDocument}
+use Rattle.documents.specs.Documents.{Document, RisesByName, listed, meets, is_under_any}
+use Rattle.documents.specs.Shared.{document_of, documents_shared}
+use Rattle.documents.specs.State.{State}
 use Rattle.search.specs.Front.{AreFronted, AreFronts}
 use Rattle.prefixes.specs.Under.{begins_with, is_under_one}
 use Rattle.prepare.specs.Front.{IsFrontOf}
@@ -18,10 +18,10 @@ use Rattle.prepare.specs.Prepared.{pattern_of}
 use Rattle.prepare.specs.declared.pattern.Prepared.{Prepared}
 use Rattle.prepare.specs.Pattern.{Admits, Test, Pattern}
 use Rattle.prepare.specs.Queries.{can_have}
-use Rattle.search.specs.Scan.{candidates_of}
+use Rattle.views.specs.Scan.{candidates_of}
 use Rattle.search.specs.Selects.{Selects, IsAdmitted}
-use Rattle.index.proofs.ListedLemmas.{listed-rises}
-use Rattle.index.proofs.DocumentLemmas.{bytes_eq-refl, filter-Contains, Contains-filter}
+use Rattle.documents.proofs.ListedLemmas.{listed-rises}
+use Rattle.documents.proofs.ElementLemmas.{bytes_eq-refl, filter-Contains, Contains-filter}
 use Rattle.search.proofs.SelectsLemmas.{Selects-map, sorted-Selects, Contains-kept, kept-Contains}
 use Rattle.search.proofs.ScanLemmas.{AreWanted}
 

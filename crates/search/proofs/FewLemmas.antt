@@ -1,7 +1,7 @@
 -- The bytes of the first documents.
 use Rattle.std.proofs.Common.{◌≡◌, ℕ, zero, suc, ◌+◌, ◌<◌, List, [], ◌∷◌, length, get_or, take, sym, ◌∙◌, ap, subst, arith}
 use Rattle.std.proofs.lemmas.List.Sums.{sum-map, sum_by-cons}
-use Rattle.index.specs.declared.document.SharedDocument.{SharedDocument}
+use Rattle.documents.specs.declared.document.SharedDocument.{SharedDocument}
 use Rattle.search.specs.Private.Ways.{bytes_in}
 
 bytes_in-cons : (d : SharedDocument) (ds : List SharedDocument) → bytes_in (d ∷ ds) ≡ length d.held + bytes_in ds

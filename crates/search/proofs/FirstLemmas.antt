@@ -7,12 +7,12 @@ use Rattle.std.proofs.lemmas.Bool.{true≢false}
 use Rattle.std.proofs.lemmas.List.{map-append}
 use Rattle.std.proofs.lemmas.List.Elements.{All-cons}
 use Rattle.engine.proofs.LineLemmas.{NoFeed}
-use Rattle.index.specs.Documents.{Document, listed, is_under_any}
-use Rattle.index.specs.Shared.{document_of, documents_shared}
-use Rattle.index.specs.State.{State, IsState}
-use Rattle.index.specs.Text.{IsName}
-use Rattle.index.specs.declared.document.SharedDocument.{SharedDocument}
-use Rattle.index.proofs.DocumentLemmas.{Contains-head, Contains-tail, filter-Contains}
+use Rattle.documents.specs.Documents.{Document, listed, is_under_any}
+use Rattle.documents.specs.Shared.{document_of, documents_shared}
+use Rattle.documents.specs.State.{State, IsState}
+use Rattle.documents.specs.Text.{IsName}
+use Rattle.documents.specs.declared.document.SharedDocument.{SharedDocument}
+use Rattle.documents.proofs.ElementLemmas.{Contains-head, Contains-tail, filter-Contains}
 use Rattle.prepare.specs.Pattern.{Admits, Pattern, Test, Passes}
 use Rattle.prepare.specs.Prepared.{pattern_of, request_of}
 use Rattle.prepare.specs.Queries.{can_have}
@@ -20,9 +20,9 @@ use Rattle.prepare.specs.declared.pattern.Prepared.{Prepared}
 use Rattle.query.specs.Trigrams.{trigrams_of_body}
 use Rattle.search.specs.Front.{AreFronted}
 use Rattle.search.specs.Private.Gathered.{HaveOwnNames, Joins, shown_with}
-use Rattle.search.specs.Scan.{candidates_of}
+use Rattle.views.specs.Scan.{candidates_of}
 use Rattle.search.specs.Selects.{Selects, done, keep, skip, IsAdmitted}
-use Rattle.search.specs.Shown.{IsShownOf}
+use Rattle.views.specs.ShownOf.{IsShownOf}
 use Rattle.search.specs.declared.gathered.Wanted.{Wanted}
 use Rattle.search.specs.declared.side_by_side.Joined.{Joined}
 use Rattle.search.proofs.AnswerLemmas.{shown-is}

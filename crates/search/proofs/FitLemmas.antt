@@ -6,7 +6,7 @@ use Rattle.std.specs.List.Sorted.{IsStrictlyIncreasing}
 use Rattle.std.proofs.lemmas.List.Elements.{All-nil, All-cons}
 use Rattle.engine.proofs.Deciding.{lines-feedless}
 use Rattle.engine.proofs.LineLemmas.{NoFeed, no_feed_at}
-use Rattle.index.specs.declared.document.SharedDocument.{SharedDocument}
+use Rattle.documents.specs.declared.document.SharedDocument.{SharedDocument}
 use Rattle.lines.specs.Lines.{lines_of}
 use Rattle.search.specs.Private.Added.{AddsUpTo}
 use Rattle.search.specs.Private.Documents.{lines_of_taken}
@@ -17,7 +17,7 @@ use Rattle.views.specs.Found.{Hit}
 use Rattle.views.specs.View.{shows_names}
 use Rattle.search.specs.Selects.{Selects, done, keep, skip}
 use Rattle.views.specs.Found.{numbered}
-use Rattle.search.specs.Rows.{limited}
+use Rattle.views.specs.Rows.{limited}
 use Rattle.search.proofs.GatherLemmas.{All-limited}
 use Rattle.search.proofs.SelectsLemmas.{All-Selects}
 use Rattle.search.proofs.ViewLemmas.{All-left}

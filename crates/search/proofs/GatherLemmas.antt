@@ -5,8 +5,8 @@ use Rattle.std.specs.List.{AllByRecursion}
 use Rattle.std.specs.Str.{bytes_eq}
 use Rattle.std.proofs.lemmas.Bool.{false≢true}
 use Rattle.std.proofs.lemmas.List.{append-nil, map-append}
-use Rattle.index.specs.Documents.{Document}
-use Rattle.index.specs.declared.document.SharedDocument.{SharedDocument}
+use Rattle.documents.specs.Documents.{Document}
+use Rattle.documents.specs.declared.document.SharedDocument.{SharedDocument}
 use Rattle.request.specs.declared.options.View.{View}
 use Rattle.request.specs.declared.options.View.TheVariants as view
 use Rattle.prepare.specs.Pattern.{Test}
@@ -18,7 +18,7 @@ use Rattle.views.specs.Found.{Hit}
 use Rattle.search.specs.Selects.{Selects, IsAsked}
 use Rattle.views.specs.Found.{found}
 use Rattle.lines.specs.Lines.{lines_of}
-use Rattle.search.specs.Rows.{hits_in, AreRows, IsColumnRow, IsSpansRow, RowsOf, done, more, at_most, body_of, is_over, limited, names_of, name_with_count, total}
+use Rattle.views.specs.Rows.{hits_in, AreRows, IsColumnRow, IsSpansRow, RowsOf, done, more, at_most, body_of, is_over, limited, names_of, name_with_count, total}
 use Rattle.views.specs.View.{Row, hit, name, shows_names, stretches}
 use Rattle.search.proofs.LimitLemmas.{limited-all, limited-front, limited-over, at_most-within, at_most-front, is_over-front, at_most-over, is_over-over}
 use Rattle.search.proofs.ScanLemmas.{numbered-named}

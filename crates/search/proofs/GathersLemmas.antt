@@ -7,8 +7,8 @@ use Rattle.std.proofs.lemmas.Bool.Decides.{nat_tests}
 use Rattle.std.proofs.lemmas.Grind.{flat_map-append}
 use Rattle.std.proofs.Math.Seq.{take-suc}
 use Rattle.std.proofs.lemmas.List.{append-nil, length-append, take_all, take-append-drop}
-use Rattle.index.specs.Documents.{Document}
-use Rattle.index.specs.declared.document.SharedDocument.{SharedDocument}
+use Rattle.documents.specs.Documents.{Document}
+use Rattle.documents.specs.declared.document.SharedDocument.{SharedDocument}
 use Rattle.request.specs.declared.options.View.{View}
 use Rattle.request.specs.declared.options.View.TheVariants as view
 use Rattle.search.specs.declared.gathered.Gathered.{Gathered}
@@ -24,7 +24,7 @@ use Rattle.views.specs.declared.shown.FoundBy.{FoundBy}
 use Rattle.search.specs.Selects.{Selects, done, IsAsked}
 use Rattle.prepare.specs.Tests.{test_of}
 use Rattle.views.specs.Text.{text_of_row, text_of_rows}
-use Rattle.search.specs.Rows.{AreRows, name_with_count, hits_in, at_most, is_over, limited, names_of, total}
+use Rattle.views.specs.Rows.{AreRows, name_with_count, hits_in, at_most, is_over, limited, names_of, total}
 use Rattle.views.specs.View.{Row, name, count, shows_names}
 use Rattle.search.proofs.GatherLemmas.{All-limited, gathered-append, gathered-over, found-apart, named-one, own-left, rows-none, names-none, rows-one, total-lines, total-names}
 use Rattle.search.proofs.LimitLemmas.{at_most-within, limited-all, limited-front, limited-over, limited-cut, length-limited}

@@ -6,10 +6,10 @@ use Rattle.std.specs.Str.{bytes_eq}
 use Rattle.std.proofs.lemmas.Bool.Decides.{nat_tests}
 use Rattle.std.proofs.Math.Seq.{drop-nil}
 use Rattle.std.proofs.lemmas.List.{append-nil, drop-append-le, length-append, take-append-drop}
-use Rattle.index.specs.Documents.{Document}
-use Rattle.index.specs.Shared.{documents_shared}
-use Rattle.index.specs.declared.document.SharedDocument.{SharedDocument}
-use Rattle.index.proofs.DocumentLemmas.{bytes_eq-refl, bytes_eq-sym}
+use Rattle.documents.specs.Documents.{Document}
+use Rattle.documents.specs.Shared.{documents_shared}
+use Rattle.documents.specs.declared.document.SharedDocument.{SharedDocument}
+use Rattle.documents.proofs.ElementLemmas.{bytes_eq-refl, bytes_eq-sym}
 use Rattle.lines.specs.Lines.{lines_of}
 use Rattle.request.specs.declared.options.View.{View}
 use Rattle.request.specs.declared.options.View.TheVariants as view
@@ -24,7 +24,7 @@ use Rattle.search.specs.declared.gathered.Wanted.{Wanted}
 use Rattle.search.specs.declared.side_by_side.Joined.{Joined}
 use Rattle.views.specs.Found.{Hit}
 use Rattle.views.specs.Found.{numbered, lines_of_document}
-use Rattle.search.specs.Rows.{AreRows, body_of, is_over, hits_in, limited, names_of}
+use Rattle.views.specs.Rows.{AreRows, body_of, is_over, hits_in, limited, names_of}
 use Rattle.views.specs.View.{Row, gap, hit, is_near, rows_from, stretches}
 use Rattle.search.proofs.GatherLemmas.{found-apart, gathered-append, gathered-over, gathered-within, own-left, own-right}
 use Rattle.search.proofs.GathersLemmas.{found-both, kept-lines, kept-others, lines_viewed, selection_of, text-rows-append}

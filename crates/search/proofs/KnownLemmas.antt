@@ -5,9 +5,9 @@ use Rattle.std.proofs.Math.Dec.{eqb}
 use Rattle.std.proofs.lemmas.Bool.{eqb-true, eq-eqb, false≢true}
 use Rattle.std.proofs.lemmas.List.{map-append, length-append, length-map, length-take, length-drop, take-append-drop, get_or_append_left, nil_from_length}
 use Rattle.std.proofs.lemmas.List.Elements.{All-append, All-contains, All-contains_itself, All-get_or, All-map, All-nil, All-push, All-take, All-weaker}
-use Rattle.index.proofs.DocumentLemmas.{Contains-cons}
-use Rattle.index.specs.Shared.{NumbersTellBodies}
-use Rattle.index.specs.declared.document.SharedDocument.{SharedDocument}
+use Rattle.documents.proofs.ElementLemmas.{Contains-cons}
+use Rattle.documents.specs.Shared.{NumbersTellBodies}
+use Rattle.documents.specs.declared.document.SharedDocument.{SharedDocument}
 use Rattle.prepare.specs.Pattern.{Test}
 use Rattle.views.specs.declared.places.Place.{Place}
 use Rattle.views.specs.Found.{Hit, lines_of_document}

@@ -21,4 +21,3 @@ mod KnownLemmas
 mod FitLemmas
 mod AnswerLemmas
 mod FirstLemmas
-mod OneAnswer

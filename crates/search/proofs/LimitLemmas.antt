@@ -6,7 +6,7 @@ use Rattle.std.proofs.lemmas.Bool.Decides.{nat_tests}
 use Rattle.std.proofs.lemmas.List.{append-nil, length-append, length-take, take-append-le, take_all}
 use Rattle.search.specs.Private.Added.{IsReached}
 use Rattle.search.specs.Private.Gathered.{left_from, one_more}
-use Rattle.search.specs.Rows.{at_most, is_over, limited}
+use Rattle.views.specs.Rows.{at_most, is_over, limited}
 
 -- ---- one list after another
 

@@ -5,8 +5,8 @@ use Rattle.std.specs.List.{list_any}
 use Rattle.std.proofs.lemmas.List.{append-nil}
 use Rattle.std.proofs.lemmas.Bool.{false≢true, true≢false}
 use Rattle.engine.proofs.LineLemmas.{NoFeed}
-use Rattle.index.specs.Text.{IsName, is_name_byte}
-use Rattle.index.specs.declared.document.SharedDocument.{SharedDocument}
+use Rattle.documents.specs.Text.{IsName, is_name_byte}
+use Rattle.documents.specs.declared.document.SharedDocument.{SharedDocument}
 use Rattle.search.specs.Selects.{Selects, done, keep, skip}
 
 -- ---- a name is a line

@@ -3,7 +3,7 @@ use Rattle.std.proofs.Common.{◌≡◌, ℕ, ◌+◌, ◌-◌, ◌<◌, ◌≤�
 use Rattle.std.specs.Prelude.{slice_range, All}
 use Rattle.std.proofs.lemmas.List.{append-nil, map-append, length-append, length-map, length-take, length-drop, drop-take, drop-drop, take-take, get_or_append_left, get_or_push, nil_from_length}
 use Rattle.std.proofs.lemmas.List.Elements.{All-nil, All-cons, All-head, All-tail, All-append, All-weaker}
-use Rattle.index.specs.declared.document.SharedDocument.{SharedDocument}
+use Rattle.documents.specs.declared.document.SharedDocument.{SharedDocument}
 use Rattle.views.specs.declared.places.Place.{Place}
 use Rattle.prepare.specs.Pattern.{Test, Passes}
 use Rattle.views.specs.Found.{Hit}

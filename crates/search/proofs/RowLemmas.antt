@@ -10,7 +10,7 @@ use Rattle.prepare.specs.Request.{Request}
 use Rattle.views.specs.Found.{Hit}
 use Rattle.views.specs.Text.{text_of_row, text_of_rows, text_of_span, text_of_spans}
 use Rattle.views.specs.View.{Row, hit, at_column, stretches}
-use Rattle.search.specs.Rows.{RowsOf, done, more, shown_tree, IsColumnRow, IsSpansRow}
+use Rattle.views.specs.Rows.{RowsOf, done, more, shown_tree, IsColumnRow, IsSpansRow}
 use Rattle.views.specs.View.{name as name_row, count as count_row}
 use Rattle.request.specs.declared.options.View.{View}
 use Rattle.request.specs.declared.options.View.TheVariants as view

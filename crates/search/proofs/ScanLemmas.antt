@@ -13,17 +13,17 @@ use Rattle.std.proofs.lemmas.Option.{slice_get_within, get_or_from_slice_get}
 use Rattle.lines.specs.Lines.{lines_of}
 use Rattle.query.specs.Trigrams.{trigrams_of_body}
 use Rattle.trigram.proofs.LawLemmas.{matching_line}
-use Rattle.index.specs.Documents.{Document, RisesByName, listed}
-use Rattle.index.specs.State.{State}
-use Rattle.index.proofs.DocumentLemmas.{Contains-cons, Contains-head, Contains-tail}
+use Rattle.documents.specs.Documents.{Document, RisesByName, listed}
+use Rattle.documents.specs.State.{State}
+use Rattle.documents.proofs.ElementLemmas.{Contains-cons, Contains-head, Contains-tail}
 use Rattle.ere.specs.Tree.{Tree}
 use Rattle.prepare.specs.Pattern.{Admits, Passes, Pattern}
 use Rattle.views.specs.Found.{Hit}
-use Rattle.search.specs.Scan.{IsHit, hit_cmp, IsScanOf, candidates_of}
+use Rattle.views.specs.Scan.{IsHit, hit_cmp, IsScanOf, candidates_of}
 use Rattle.prepare.specs.Queries.{can_have}
 use Rattle.views.specs.Found.{found, numbered, lines_of_document}
 use Rattle.search.specs.Selects.{Selects, IsAsked}
-use Rattle.index.proofs.DocumentLemmas.{filter-Contains, Contains-filter}
+use Rattle.documents.proofs.ElementLemmas.{filter-Contains, Contains-filter}
 use Rattle.search.proofs.SelectsLemmas.{sorted-Selects, Contains-kept, kept-Contains}
 
 -- ---- the lines of one document

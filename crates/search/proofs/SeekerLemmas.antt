@@ -13,7 +13,7 @@ use Rattle.spans.specs.Passes.{HasNoEmpty, HasNoSpanAt, IsFirstEmpty, IsLongestE
 use Rattle.spans.specs.declared.span.Span.{Span as SpanValue}
 use Rattle.prepare.specs.Prepared.{request_of}
 use Rattle.search.specs.Private.Seekers.{CanShow, IsLeastStart, IsTried, Seeks, shows_matches}
-use Rattle.search.specs.Rows.{shown_tree}
+use Rattle.views.specs.Rows.{shown_tree}
 use Rattle.search.specs.declared.gathered.Wanted.{Wanted}
 use Rattle.search.specs.declared.seeker.Seeker.{Seeker as SeekerValue}
 use Rattle.search.specs.declared.seeker.Tried.{Tried as TriedValue}

@@ -4,7 +4,7 @@ use Rattle.std.specs.List.{AllByRecursion}
 use Rattle.std.specs.List.Sorted.{IsStrictlySortedBy}
 use Rattle.std.specs.declared.cmp.Ordering.{Ordering}
 use Rattle.std.specs.declared.cmp.Ordering.TheVariants.{Less}
-use Rattle.index.proofs.DocumentLemmas.{Contains-cons, Contains-head, Contains-tail}
+use Rattle.documents.proofs.ElementLemmas.{Contains-cons, Contains-head, Contains-tail}
 use Rattle.search.specs.Selects.{Selects, done, keep, skip}
 
 pub Selects-append : {X : Type 0} {Has : X → Type 0} {xs ys a b : List X} → Selects Has xs a → Selects Has ys b → Selects Has (xs ++ ys) (a ++ b)

@@ -1,13 +1,13 @@
 -- The lines of documents that are taken out of an index.
 use Rattle.std.proofs.Common.{◌≡◌, List, [], ◌∷◌, ◌++◌, refl, ◌∙◌, ap, subst}
 use Rattle.std.specs.Prelude.{flat_map}
-use Rattle.index.specs.declared.document.SharedDocument.{SharedDocument}
-use Rattle.index.specs.Shared.{documents_shared}
-use Rattle.index.specs.State.{State}
+use Rattle.documents.specs.declared.document.SharedDocument.{SharedDocument}
+use Rattle.documents.specs.Shared.{documents_shared}
+use Rattle.documents.specs.State.{State}
 use Rattle.search.specs.Front.{AreFronted}
 use Rattle.prepare.specs.Pattern.{Pattern}
 use Rattle.views.specs.Found.{Hit}
-use Rattle.search.specs.Scan.{IsScanOf}
+use Rattle.views.specs.Scan.{IsScanOf}
 use Rattle.search.specs.Selects.{Selects, IsAsked, IsAdmitted}
 use Rattle.search.specs.Private.Documents.{lines_of_taken}
 use Rattle.search.proofs.CandidateLemmas.{wanted_are}

@@ -3,7 +3,7 @@ use Rattle.std.proofs.Common.{◌≡◌, ℕ, ◌+◌, ◌<◌, Bool, true, fals
 use Rattle.std.specs.Prelude.{◌↔◌, IsTrue, All}
 use Rattle.std.proofs.lemmas.List.Elements.{All-nil, All-push, All-pop}
 use Rattle.ere.specs.Language.{ContainsMatch}
-use Rattle.index.specs.declared.document.SharedDocument.{SharedDocument}
+use Rattle.documents.specs.declared.document.SharedDocument.{SharedDocument}
 use Rattle.prepare.specs.Pattern.{Pattern, Test, Passes, with_match}
 use Rattle.search.specs.Selects.{Selects, done, keep, skip, IsAdmitted, IsNamed, IsNamedForAll}
 use Rattle.search.specs.Private.Ways.{IsBegun}

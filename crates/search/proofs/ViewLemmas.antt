@@ -6,13 +6,13 @@ use Rattle.std.specs.Str.{bytes_eq}
 use Rattle.std.proofs.lemmas.Grind.{flat_map-append}
 use Rattle.std.proofs.lemmas.List.{append-nil, length-append}
 use Rattle.std.proofs.lemmas.List.Elements.{filter-append}
-use Rattle.index.proofs.DocumentLemmas.{bytes_eq-refl, bytes_eq-sym}
-use Rattle.index.specs.Documents.{Document}
+use Rattle.documents.proofs.ElementLemmas.{bytes_eq-refl, bytes_eq-sym}
+use Rattle.documents.specs.Documents.{Document}
 use Rattle.request.specs.declared.options.View.{View}
 use Rattle.search.specs.Private.Gathered.{all_stretches}
 use Rattle.views.specs.Found.{Hit}
 use Rattle.views.specs.View.{count, shows_names, stretches}
-use Rattle.search.specs.Rows.{body_of, hits_in, name_with_count, names_of, total}
+use Rattle.views.specs.Rows.{body_of, hits_in, name_with_count, names_of, total}
 
 -- ---- lists
 

@@ -1,8 +1,8 @@
 -- What a pattern asks for in the documents that commands leave.
 use Rattle.std.specs.Prelude.{◌≡◌, ℕ, ◌-◌, ◌<◌, List, Some, slice_get}
 use Rattle.lines.specs.Lines.{lines_of}
-use Rattle.index.specs.declared.command.Command.{Command}
-use Rattle.index.specs.Documents.{IsPutLast}
+use Rattle.documents.specs.declared.command.Command.{Command}
+use Rattle.documents.specs.Documents.{IsPutLast}
 use Rattle.prepare.specs.Pattern.{Admits, Passes, Pattern}
 use Rattle.views.specs.Found.{Hit}
 

@@ -1,10 +1,10 @@
 -- The candidates whose names begin with texts with one of which every name begins that is asked for.
 use Rattle.std.specs.Prelude.{◌≡◌, List, ℕ, filter, IsTrue}
 use Rattle.prefixes.specs.Under.{is_under_one}
-use Rattle.index.specs.Documents.{Document, is_under_any}
-use Rattle.index.specs.State.{State}
+use Rattle.documents.specs.Documents.{Document, is_under_any}
+use Rattle.documents.specs.State.{State}
 use Rattle.prepare.specs.Pattern.{Admits, Pattern}
-use Rattle.search.specs.Scan.{candidates_of}
+use Rattle.views.specs.Scan.{candidates_of}
 
 -- Every name that is asked for begins with one of the texts.
 abbrev pub AreFronts : Pattern → List (List ℕ) → Type 0

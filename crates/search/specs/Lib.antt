@@ -1,9 +1,5 @@
-pub mod Scan
 pub mod Front
 pub mod Selects
 pub mod Commands
-pub mod Rows
-pub mod Shown
-pub mod Laws
 pub mod Taken
 pub mod Private

@@ -1,6 +1,6 @@
 -- Those of the lines, and of the documents, that a search keeps.
 use Rattle.std.specs.Prelude.{List, [], ◌∷◌, All}
-use Rattle.index.specs.declared.document.SharedDocument.{SharedDocument}
+use Rattle.documents.specs.declared.document.SharedDocument.{SharedDocument}
 use Rattle.prepare.specs.Pattern.{Admits, Test, Passes, Pattern}
 use Rattle.views.specs.Found.{Hit}
 

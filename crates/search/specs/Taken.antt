@@ -1,9 +1,9 @@
 -- What a search has taken out of an index.
 use Rattle.std.specs.Prelude.{◌≡◌, ◌++◌, List, length}
 use Rattle.std.specs.FinMap.{len}
-use Rattle.index.specs.Shared.{documents_shared, NumbersTellBodies}
-use Rattle.index.specs.State.{State, IsState}
-use Rattle.index.specs.declared.document.SharedDocument.{SharedDocument}
+use Rattle.documents.specs.Shared.{documents_shared, NumbersTellBodies}
+use Rattle.documents.specs.State.{State, IsState}
+use Rattle.documents.specs.declared.document.SharedDocument.{SharedDocument}
 use Rattle.search.specs.declared.first.First.{First}
 use Rattle.search.specs.declared.first.First.TheVariants.{All as all_taken, Part as part_taken}
 use Rattle.search.specs.declared.first.FirstPart.{FirstPart}
@@ -11,7 +11,7 @@ use Rattle.search.specs.declared.taken.Taken.{Taken}
 use Rattle.search.specs.Front.{AreFronted}
 use Rattle.prepare.specs.Prepared.{request_of}
 use Rattle.prepare.specs.Request.{Request}
-use Rattle.search.specs.Scan.{candidates_of}
+use Rattle.views.specs.Scan.{candidates_of}
 
 -- It was taken from an index in this state, for this request: the number of all candidates, and some or all of these documents, which
 -- are the candidates whose names begin with texts with one of which every name begins that is asked for. Those with the same number

@@ -9,7 +9,7 @@ use crate::known::Known;
 use crate::names::named;
 use crate::side_by_side::{documents_with, gather_part};
 use crate::taken::{Taken, take_up_to, wanted_by, with_counts};
-use index::Index;
+use documents::Corpus;
 use prepare::Prepared;
 use std::alloc::{AllocError, Global};
 use views::Shown;
@@ -40,17 +40,17 @@ pub struct FirstPart<'p> {
 ///
 /// `watch` can call the search off: `CalledOff` is returned only after `watch.wants()` said `false`, and nothing is asked after that.
 /// `OutOfMemory` means that memory ran out, or that a name or a body has too many handles.
-pub fn take_first<'p, W: Watch>(
+pub fn take_first<'p, C: Corpus, W: Watch>(
     alloc: Global,
-    index: &Index,
+    corpus: &C,
     prepared: &'p Prepared,
     most: usize,
     watch: &mut W,
 ) -> Result<First<'p>, Unanswered>
-    ensures first { IfOk result (IsFirstOf index.now (request_of prepared.now)) }
+    ensures first { IfOk result (IsFirstOf (C.state corpus.now) (request_of prepared.now)) }
     ensures called_off { IfErr result (IsCalledOffOnlyIf (W.has_said_no watch.new)) }
 {
-    let mut taken = take_up_to(alloc, index, prepared, most, watch)?;
+    let mut taken = take_up_to(alloc, corpus, prepared, most, watch)?;
     if taken.candidates.len() < most {
         return Ok(First::All(taken));
     }
@@ -61,10 +61,10 @@ pub fn take_first<'p, W: Watch>(
 
 impl FirstPart<'_> {
     ghost use Rattle.std.specs.Prelude.{IfOk, IfErr, IfSome, IfNone};
-    ghost use Rattle.index.specs.State.{State};
+    ghost use Rattle.documents.specs.State.{State};
     ghost use Rattle.prepare.specs.Request.{Request};
     ghost use Rattle.watch.specs.CalledOff.{IsCalledOffOnlyIf};
-    ghost use Rattle.search.specs.Shown.{IsShownOf};
+    ghost use Rattle.views.specs.ShownOf.{IsShownOf};
     ghost use Rattle.search.specs.Taken.{IsPartOf};
 
     /// Matches the names and then the lines, and returns what the request shows of the answer, in the state that the index

@@ -9,7 +9,7 @@ ghost use Rattle.search.specs.Private.Known.{AreTold, FindsHits, IsTold, Knows};
 ghost use Rattle.search.specs.Private.Gathered.{Gathers, GathersMore, HaveOwnNames, AddsRows, all_or_one, asked, beyond, kept_of, left_from, number_of, one_more, shown_hits, shows_lines};
 ghost use Rattle.search.specs.Private.Seekers.{CanShow, IsOneLine};
 ghost use Rattle.search.specs.Private.Ways.{AreFew, Finds};
-ghost use Rattle.search.specs.Rows.{at_most, is_over, limited};
+ghost use Rattle.views.specs.Rows.{at_most, is_over, limited};
 ghost use Rattle.views.specs.View.{shows_names};
 
 use crate::known::{Known, has_enough, list_entry};
@@ -17,7 +17,7 @@ use crate::matching::{few_documents, scan_document};
 use crate::rows::append_rows;
 use crate::seeker::{Seeker, compile_shown, shown_seeker};
 use crate::way::{Way, compile_for_lines, found_by, way_by};
-use index::SharedDocument;
+use documents::SharedDocument;
 use prepare::Prepared;
 use request::View;
 use std::alloc::Global;

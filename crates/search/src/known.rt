@@ -18,7 +18,7 @@ use crate::matching::{is_reached, scan_body};
 use crate::repeated::{Numbers, find_repeated};
 use crate::side_by_side::{DOCUMENTS, PART, bytes_of, documents_with};
 use crate::way::{Way, compile_for_lines, way_by};
-use index::{Held, SharedDocument};
+use documents::{Held, SharedDocument};
 use prepare::Test;
 use std::alloc::Global;
 use std::thread::{Threads, join};

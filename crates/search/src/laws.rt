@@ -1,15 +1,12 @@
 //! What is known of answers.
 
 ghost use Rattle.std.specs.Prelude.{◌≡◌, List, length, Contains, ◌↔◌};
-ghost use Rattle.index.specs.declared.command.Command.{Command as CommandValue};
-ghost use Rattle.index.specs.State.{state_of};
+ghost use Rattle.documents.specs.declared.command.Command.{Command as CommandValue};
+ghost use Rattle.documents.specs.State.{state_of};
 ghost use Rattle.prepare.specs.Pattern.{Pattern};
 ghost use Rattle.views.specs.Found.{Hit, Answer};
-ghost use Rattle.search.specs.Scan.{IsAnswerOf};
+ghost use Rattle.views.specs.Scan.{IsAnswerOf};
 ghost use Rattle.search.specs.Commands.{IsHitOfPut};
-ghost use Rattle.search.specs.Laws.{AnswersAreOne, ShownAreOne, TimesShowNothing};
-
-use spans::one_list_of_spans;
 
 /// The answer for the state that commands leave follows from the commands: its version is their number, and its hits
 /// are exactly the lines that the pattern asks for in the last `Put` of each name or in a copy, if no later command bears on it.
@@ -18,21 +15,4 @@ pub fn answers_follow_commands()
         IsAnswerOf (state_of commands) pattern answer → answer.version ≡ length commands }
     ensures hits { (commands : List CommandValue) (pattern : Pattern) (answer : Answer) (found : Hit) →
         IsAnswerOf (state_of commands) pattern answer → Contains answer.hits found ↔ IsHitOfPut commands pattern found }
-{}
-
-/// In a state a pattern has at most one answer.
-pub fn one_answer()
-    ensures { AnswersAreOne }
-{}
-
-/// In a state at most one thing is what a request shows, whatever its view, but for how it was made.
-pub fn one_shown()
-    ensures { ShownAreOne }
-{
-    one_list_of_spans();
-}
-
-/// What is shown stays what the request asks for if it gets its times.
-pub fn times_show_nothing()
-    ensures { TimesShowNothing }
 {}

@@ -20,7 +20,7 @@ mod taken;
 mod way;
 
 pub use first::{First, FirstPart, take_first};
-pub use laws::{answers_follow_commands, one_answer, one_shown, times_show_nothing};
+pub use laws::answers_follow_commands;
 pub use scan::find;
 pub use taken::{Taken, take, take_watched};
 pub use watch::{NoWatch, Unanswered, Watch};

@@ -2,7 +2,7 @@
 
 ghost use Rattle.std.specs.Prelude.{◌≡◌, ◌≢◌, ◌<◌, ◌≤◌, ◌+◌, ℕ, List, [], ◌∷◌, length, slice_index, IfOk, IfErr, OnOk, All, MatchBool};
 ghost use Rattle.ere.specs.Tree.{Tree, form};
-ghost use Rattle.index.specs.Text.{greatest_body};
+ghost use Rattle.documents.specs.Text.{greatest_body};
 ghost use Rattle.engine.specs.Patterns.{IsFinderOf, IsLineFinderOf};
 ghost use Rattle.watch.specs.CalledOff.{IsCalledOffOnlyIf};
 ghost use Rattle.prepare.specs.Pattern.{with_match};
@@ -16,8 +16,8 @@ ghost use Rattle.search.specs.Private.Ways.{Finds, AreFew};
 
 use crate::piece::piece_end;
 use crate::way::{Way, passes, piece_for};
+use documents::{Body, SharedDocument};
 use engine::{Finder, lines_before};
-use index::{Body, SharedDocument};
 use matcher::is_quick;
 use memchr::memchr;
 use prepare::Test;

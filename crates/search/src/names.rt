@@ -10,7 +10,7 @@ ghost use Rattle.search.specs.Selects.{Selects, IsAdmitted, IsNamed};
 ghost use Rattle.search.specs.Private.Ways.{Finds, IsBegun};
 
 use crate::way::{Way, compile_for_lines, passes, way_by};
-use index::SharedDocument;
+use documents::SharedDocument;
 use matcher::is_quick;
 use prepare::{Prepared, Test};
 use std::alloc::Global;

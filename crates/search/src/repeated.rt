@@ -6,7 +6,7 @@ ghost use Rattle.search.specs.Private.Known.{HasBody};
 
 use crate::matching::body_size;
 use crate::side_by_side::DOCUMENTS;
-use index::SharedDocument;
+use documents::SharedDocument;
 use std::alloc::{AllocError, Global};
 use watch::{Pace, Unanswered, Watch};
 

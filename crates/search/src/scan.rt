@@ -1,11 +1,11 @@
 //! Searches of an index.
 
 ghost use Rattle.std.specs.Prelude.{IfOk};
-ghost use Rattle.search.specs.Scan.{IsAnswerOf};
+ghost use Rattle.views.specs.Scan.{IsAnswerOf};
 ghost use Rattle.prepare.specs.Prepared.{pattern_of};
 
 use crate::taken::take;
-use index::Index;
+use documents::Corpus;
 use prepare::Prepared;
 use std::alloc::{AllocError, Global};
 use views::Answer;
@@ -15,8 +15,8 @@ use views::Answer;
 /// pattern.
 ///
 /// An `Err` means that memory ran out, or that a name or a body has too many handles.
-pub fn find(alloc: Global, index: &Index, prepared: &Prepared) -> Result<Answer, AllocError>
-    ensures { IfOk result (λ answer. IsAnswerOf index.now (pattern_of prepared.now) answer) }
+pub fn find<C: Corpus>(alloc: Global, corpus: &C, prepared: &Prepared) -> Result<Answer, AllocError>
+    ensures { IfOk result (λ answer. IsAnswerOf (C.state corpus.now) (pattern_of prepared.now) answer) }
 {
-    take(alloc, index, prepared)?.answer(alloc)
+    take(alloc, corpus, prepared)?.answer(alloc)
 }

@@ -11,7 +11,7 @@ ghost use Rattle.spans.specs.Sides.{is_word_before};
 ghost use Rattle.watch.specs.CalledOff.{IsCalledOffOnlyIf};
 ghost use Rattle.prepare.specs.Prepared.{request_of};
 ghost use Rattle.search.specs.Private.Seekers.{CanShow, IsLeastStart, IsOneLine, IsTried, shows_matches};
-ghost use Rattle.search.specs.Rows.{shown_tree};
+ghost use Rattle.views.specs.Rows.{shown_tree};
 
 use crate::gathered::Wanted;
 use crate::way::compile;

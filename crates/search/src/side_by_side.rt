@@ -1,20 +1,20 @@
 //! What is shown of documents, gathered in several parts side by side.
 
 ghost use Rattle.std.specs.Prelude.{◌≡◌, ◌≤◌, ◌++◌, false, length, drop, ◌+◌, List, IfOk, IfErr, OnOk, IsTrue, ◌⊎◌};
-ghost use Rattle.index.specs.declared.document.SharedDocument.{SharedDocument};
+ghost use Rattle.documents.specs.declared.document.SharedDocument.{SharedDocument};
 ghost use Rattle.watch.specs.CalledOff.{IsCalledOffOnlyIf};
 ghost use Rattle.watch.specs.declared.unanswered.Unanswered.TheVariants.{OutOfMemory};
 ghost use Rattle.search.specs.Private.Known.{AreTold, Knows};
 ghost use Rattle.search.specs.Private.Gathered.{HasGap, HaveOwnNames, Joins, cut_gap, gap_rows, left_from, shows_context};
 ghost use Rattle.views.specs.Parts.{text_of_parts};
 ghost use Rattle.views.specs.Text.{text_of_hits, text_of_rows};
-ghost use Rattle.search.specs.Rows.{is_over};
+ghost use Rattle.views.specs.Rows.{is_over};
 ghost use denote.Param.Send.{IsSync, IsSend};
 
 use crate::ahead::append_first;
 use crate::gathered::{Gathered, Wanted, gather, is_over, left_of, sum_of};
 use crate::matching::body_size;
-use index::SharedDocument;
+use documents::SharedDocument;
 use request::View;
 use std::alloc::Global;
 use std::thread::{Threads, join};

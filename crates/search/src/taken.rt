@@ -14,7 +14,7 @@ use crate::gathered::{Wanted, gather};
 use crate::known::{Known, know, know_side_by_side};
 use crate::names::named;
 use crate::side_by_side::{Joined, drop_by_parts, gather_part, gather_side_by_side};
-use index::{Candidates, Index, SharedDocument};
+use documents::{Candidates, Corpus, SharedDocument};
 use prefixes::Prefixes;
 use prepare::{Prepared, front_of};
 use request::View;
@@ -47,14 +47,14 @@ pub struct Taken<'p> {
 /// documents under these are taken. No other name and no line is looked at.
 ///
 /// An `Err` means that memory ran out, or that a name or a body has too many handles.
-pub fn take<'p>(
+pub fn take<'p, C: Corpus>(
     alloc: Global,
-    index: &Index,
+    corpus: &C,
     prepared: &'p Prepared,
 ) -> Result<Taken<'p>, AllocError>
-    ensures { IfOk result (IsTakenOf index.now (request_of prepared.now)) }
+    ensures { IfOk result (IsTakenOf (C.state corpus.now) (request_of prepared.now)) }
 {
-    match take_watched(alloc, index, prepared, &mut NoWatch) {
+    match take_watched(alloc, corpus, prepared, &mut NoWatch) {
         Ok(taken) => Ok(taken),
         // `CalledOff` would become an `AllocError` too, but to `NoWatch` each answer is wanted.
         Err(_) => Err(AllocError),
@@ -66,35 +66,35 @@ pub fn take<'p>(
 ///
 /// `CalledOff` is returned only after `watch.wants()` said `false`, and nothing is asked after that. `OutOfMemory` means that memory ran
 /// out, or that a name or a body has too many handles.
-pub fn take_watched<'p, W: Watch>(
+pub fn take_watched<'p, C: Corpus, W: Watch>(
     alloc: Global,
-    index: &Index,
+    corpus: &C,
     prepared: &'p Prepared,
     watch: &mut W,
 ) -> Result<Taken<'p>, Unanswered>
-    ensures taken { IfOk result (IsTakenOf index.now (request_of prepared.now)) }
+    ensures taken { IfOk result (IsTakenOf (C.state corpus.now) (request_of prepared.now)) }
     ensures called_off { IfErr result (IsCalledOffOnlyIf (W.has_said_no watch.new)) }
 {
-    let taken = take_up_to(alloc, index, prepared, usize::MAX, watch)?;
+    let taken = take_up_to(alloc, corpus, prepared, usize::MAX, watch)?;
     Ok(taken)
 }
 
 /// The same, but of the documents only the first ones, in the order of their names, if there are `most` or more.
-pub(crate) fn take_up_to<'p, W: Watch>(
+pub(crate) fn take_up_to<'p, C: Corpus, W: Watch>(
     alloc: Global,
-    index: &Index,
+    corpus: &C,
     prepared: &'p Prepared,
     most: usize,
     watch: &mut W,
 ) -> Result<Taken<'p>, Unanswered>
-    ensures taken { IfOk result (IsTakenUpTo most index.now (request_of prepared.now)) }
+    ensures taken { IfOk result (IsTakenUpTo most (C.state corpus.now) (request_of prepared.now)) }
     ensures called_off { IfErr result (IsCalledOffOnlyIf (W.has_said_no watch.new)) }
 {
-    let found = fronted(alloc, index, prepared, most, watch)?;
+    let found = fronted(alloc, corpus, prepared, most, watch)?;
     Ok(Taken {
         prepared,
-        version: index.version(),
-        documents: index.documents(),
+        version: corpus.version(),
+        documents: corpus.documents(),
         count: found.count,
         candidates: found.documents,
     })
@@ -102,19 +102,19 @@ pub(crate) fn take_up_to<'p, W: Watch>(
 
 /// How many candidates there are, and those of them whose names begin as each name begins that is asked for, in the order of
 /// their names: all, or the first ones, if there are `most` or more.
-fn fronted<W: Watch>(
+fn fronted<C: Corpus, W: Watch>(
     alloc: Global,
-    index: &Index,
+    corpus: &C,
     prepared: &Prepared,
     most: usize,
     watch: &mut W,
 ) -> Result<Candidates, Unanswered>
-    ensures fronted { IfOk result (AreFirstFronted most index.now (pattern_of prepared.now) (formula_of prepared.now.query)) }
+    ensures fronted { IfOk result (AreFirstFronted most (C.state corpus.now) (pattern_of prepared.now) (formula_of prepared.now.query)) }
     ensures called_off { IfErr result (IsCalledOffOnlyIf (W.has_said_no watch.new)) }
 {
     match front(alloc, prepared)? {
-        Some(front) => index.candidates(alloc, &prepared.query, &front, most, watch),
-        None => index.candidates(alloc, &prepared.query, &prepared.under, most, watch),
+        Some(front) => corpus.candidates(alloc, &prepared.query, &front, most, watch),
+        None => corpus.candidates(alloc, &prepared.query, &prepared.under, most, watch),
     }
 }
 
@@ -140,11 +140,11 @@ fn says_more(prepared: &Prepared, front: &[u8]) -> bool
 
 impl Taken<'_> {
     ghost use Rattle.std.specs.Prelude.{IfOk, IfErr};
-    ghost use Rattle.index.specs.State.{State};
+    ghost use Rattle.documents.specs.State.{State};
     ghost use Rattle.prepare.specs.Request.{Request};
     ghost use Rattle.watch.specs.CalledOff.{IsCalledOffOnlyIf};
-    ghost use Rattle.search.specs.Shown.{IsShownOf};
-    ghost use Rattle.search.specs.Scan.{IsAnswerOf};
+    ghost use Rattle.views.specs.ShownOf.{IsShownOf};
+    ghost use Rattle.views.specs.Scan.{IsAnswerOf};
     ghost use Rattle.search.specs.Taken.{IsTakenOf};
 
     /// Matches the names and then the lines, and returns the answer for the pattern in the state that the index had

@@ -2,11 +2,11 @@
 use Rattle.std.proofs.Common.{◌≡◌, ℕ, inl, List, [], ◌∷◌, ◌++◌, Some, None, Ok, Err, refl, sym, ap, ◌∙◌}
 use Rattle.std.proofs.lemmas.List.{append-nil}
 use Rattle.std.specs.Prelude.{Bool, false, Result, IfOk, IfErr, length}
-use Rattle.index.specs.Documents.{is_taken, has_under}
-use Rattle.index.specs.State.{State, state_of}
-use Rattle.index.specs.declared.command.Command.{Command}
-use Rattle.index.specs.declared.lengths.Lengths.{Lengths}
-use Rattle.index.specs.declared.command.Command.TheVariants.{Put, Remove, RemoveUnder, CopyUnder}
+use Rattle.documents.specs.Documents.{is_taken, has_under}
+use Rattle.documents.specs.State.{State, state_of}
+use Rattle.documents.specs.declared.command.Command.{Command}
+use Rattle.documents.specs.declared.lengths.Lengths.{Lengths}
+use Rattle.documents.specs.declared.command.Command.TheVariants.{Put, Remove, RemoveUnder, CopyUnder}
 use Rattle.script.specs.Items.{Item}
 use Rattle.script.specs.Items as item
 use Rattle.published.specs.Desk.{DeskState}

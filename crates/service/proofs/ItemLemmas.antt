@@ -6,21 +6,21 @@ use Rattle.ere.specs.declared.error.EreErrorKind.{EreErrorKind}
 use Rattle.ere.specs.declared.error.EreErrorKind.TheVariants as kind
 use Rattle.ere.specs.declared.case.Case.{Case}
 use Rattle.ere.specs.declared.case.Case.TheVariants.{Exact}
-use Rattle.index.specs.State.{State, state_of}
-use Rattle.index.specs.declared.command.Command.{Command}
+use Rattle.documents.specs.State.{State, state_of}
+use Rattle.documents.specs.declared.command.Command.{Command}
 use Rattle.published.specs.Desk.{DeskState, HasRoom, IsRemoveFault, IsCopyFault, has_document_under, has_document_too_long, with_command}
 use Rattle.published.specs.declared.error.CopyError.{CopyError}
 use Rattle.published.specs.declared.error.CopyError.TheVariants as copy_error
 use Rattle.published.specs.declared.error.RemoveError.{RemoveError}
 use Rattle.published.specs.declared.error.RemoveError.TheVariants as remove_error
 use Rattle.std.proofs.lemmas.List.{length-append}
-use Rattle.index.specs.declared.error.NameError.{NameError}
-use Rattle.index.specs.declared.lengths.Lengths.{Lengths}
-use Rattle.index.specs.declared.error.NameError.TheVariants as name
-use Rattle.index.specs.declared.error.BodyErrorKind.TheVariants as body
+use Rattle.documents.specs.declared.error.NameError.{NameError}
+use Rattle.documents.specs.declared.lengths.Lengths.{Lengths}
+use Rattle.documents.specs.declared.error.NameError.TheVariants as name
+use Rattle.documents.specs.declared.error.BodyErrorKind.TheVariants as body
 use Rattle.std.proofs.Common.{length}
 use Rattle.steps.specs.Rows.{failures_in}
-use Rattle.index.specs.Text.{most_bytes, most_name_bytes, IsNameOf, IsNameFault, IsBodyFault}
+use Rattle.documents.specs.Text.{most_bytes, most_name_bytes, IsNameOf, IsNameFault, IsBodyFault}
 use Rattle.prepare.specs.Pattern.{HasTree, IsTreeFault}
 use Rattle.transcript.specs.declared.entry.Entry.{Entry}
 use Rattle.transcript.specs.declared.entry.Entry.TheVariants.{Accepted, Refused}

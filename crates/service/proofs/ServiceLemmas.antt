@@ -12,15 +12,15 @@ use Rattle.std.specs.Ordering.{nat_cmp}
 use Rattle.std.specs.declared.cmp.Ordering.TheVariants.{Equal}
 use Rattle.steps.proofs.RowLemmas.{last_or-append}
 use mathlib.Core.List.{IsPrefix}
-use Rattle.index.specs.declared.command.Command.{Command}
-use Rattle.index.specs.State.{state_of}
-use Rattle.search.specs.Shown.{IsShownOf}
+use Rattle.documents.specs.declared.command.Command.{Command}
+use Rattle.documents.specs.State.{state_of}
+use Rattle.views.specs.ShownOf.{IsShownOf}
 use Rattle.views.specs.Shown.{Shown}
 use Rattle.prepare.specs.Request.{Request}
 use Rattle.prepare.specs.Prepared.{request_of}
 use Rattle.prepare.specs.declared.pattern.Prepared.{Prepared}
 use Rattle.logbook.specs.Pages.{Book}
-use Rattle.index.specs.declared.lengths.Lengths.{Lengths}
+use Rattle.documents.specs.declared.lengths.Lengths.{Lengths}
 use Rattle.input.specs.declared.owned.OwnedItem.{OwnedItem}
 use Rattle.input.specs.declared.owned.OwnedItem.TheVariants as owned
 use Rattle.input.specs.Owned.{ShowsOwned}

@@ -2,4 +2,5 @@ pub mod Service
 pub mod Turns
 pub mod Opening
 pub mod Collected
+pub mod Request
 pub mod Private

@@ -1,7 +1,7 @@
 -- What is opened.
 use Rattle.std.specs.Prelude.{ℕ, Bool}
 use Rattle.logbook.specs.Pages.{Book}
-use Rattle.index.specs.declared.lengths.Lengths.{Lengths}
+use Rattle.documents.specs.declared.lengths.Lengths.{Lengths}
 use Rattle.steps.specs.LegalRows.{Limits}
 
 -- commands: how many commands are accepted at most. lengths: how long names, bodies and lines may be. timed: whether searches

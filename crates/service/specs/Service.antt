@@ -1,10 +1,10 @@
 -- A service between two steps.
 use Rattle.std.specs.Prelude.{◌≡◌, ℕ, ◌+◌, ◌⊎◌, ◌≤◌, List, [], ◌∷◌, ◌++◌, length, take, drop, flat_map, Contains}
 use Rattle.std.specs.Prelude.{Some, true, slice_get}
-use Rattle.index.specs.declared.command.Command.{Command}
-use Rattle.index.specs.State.{state_of}
+use Rattle.documents.specs.declared.command.Command.{Command}
+use Rattle.documents.specs.State.{state_of}
 use Rattle.prepare.specs.Request.{Request}
-use Rattle.search.specs.Shown.{IsShownOf}
+use Rattle.views.specs.ShownOf.{IsShownOf}
 use Rattle.views.specs.Shown.{Shown}
 use Rattle.script.specs.Items.{Item, Numbered}
 use Rattle.service.specs.declared.reply.Reply.{Reply}

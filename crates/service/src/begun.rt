@@ -4,9 +4,9 @@
 #[derive(Clone, Copy, Debug, PartialEq, Eq)]
 pub struct Begun {
     /// The number of the search, from 1.
-    pub(crate) number: u32,
+    pub number: u32,
     /// The number of the reader, from 1.
-    pub(crate) reader: u32,
+    pub reader: u32,
     /// The version of what was taken.
-    pub(crate) version: u32,
+    pub version: u32,
 }

@@ -4,9 +4,12 @@ ghost use Rattle.std.specs.Prelude.{◌≡◌};
 
 use crate::naming::Naming;
 use crate::question::Question;
+use crate::tasks::Request;
+use crate::wish::Wish;
 use published::Told;
 use std::marker::{Model, PhantomData};
 use views::Shown;
+use watch::Unanswered;
 
 /// What a reader found for a search. It carries the evidence that the answer is right: the texts of the search, and the
 /// commands that were searched. Contracts see it as the number of the search.
@@ -24,14 +27,14 @@ pub struct Done<J: Naming> {
 
 /// An answer, and what was searched.
 #[derive(Drop)]
-pub(crate) struct Found<J: Naming> {
+pub struct Found<J: Naming> {
     /// The number of the reader that took the documents, from 1.
-    pub(crate) reader: u32,
+    pub reader: u32,
     /// The commands that it had seen then.
-    pub(crate) seen: Told,
-    pub(crate) answer: Shown,
-    pub(crate) of: PhantomData<J>,
-    pub(crate) ghost opening: { seen.opening ≡ J.book },
+    pub seen: Told,
+    pub answer: Shown,
+    pub of: PhantomData<J>,
+    pub ghost opening: { seen.opening ≡ J.book },
 }
 
 impl<J: Naming> Model for Done<J> {
@@ -43,4 +46,43 @@ impl<J: Naming> Model for Done<J> {
     ghost view = { λ d. d.number };
 
     ghost invariant = { λ d. IfSome d.found (λ f. IsFound d.question f.seen.commands f.answer) };
+}
+
+impl<J: Naming> Done<J> {
+    ghost use Rattle.std.specs.Prelude.{◌≡◌, IfOk};
+    ghost use Rattle.documents.specs.State.{state_of};
+    ghost use Rattle.prepare.specs.Prepared.{request_of};
+    ghost use Rattle.views.specs.ShownOf.{IsShownOf};
+
+    /// What a reader found for the search of this number, which asks for this, or why it found nothing. The wish is that of the
+    /// search.
+    pub fn new(
+        number: u32,
+        request: Request,
+        wish: &Wish,
+        found: Result<Found<J>, Unanswered>,
+    ) -> Done<J>
+        requires { IfOk found (λ found. IsShownOf (state_of found.seen.commands) (request_of request.prepared) found.answer) }
+        ensures { result ≡ number }
+    {
+        let is_late = is_given_up(&found) && !wish.is_called_off();
+        let Request {
+            question,
+            prepared: _,
+        } = request;
+        Done {
+            number,
+            question,
+            found: found.ok(),
+            is_late,
+        }
+    }
+}
+
+/// Whether the search was given up.
+fn is_given_up<J: Naming>(found: &Result<Found<J>, Unanswered>) -> bool {
+    match found {
+        Err(Unanswered::CalledOff) => true,
+        _ => false,
+    }
 }

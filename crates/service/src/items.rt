@@ -1,11 +1,11 @@
 //! The items of a script, carried out.
 
 ghost use Rattle.std.specs.Prelude.{◌≡◌, ℕ, ◌+◌, ◌<◌, ◌^◌, ◌≤◌, List, [], ◌∷◌, length, IfOk, IfErr};
-ghost use Rattle.index.specs.declared.command.Command.TheVariants.{Put as put_command, Remove as remove_command, RemoveUnder as remove_under_command, CopyUnder as copy_under_command};
-ghost use Rattle.index.specs.Documents.{is_taken, has_under};
-ghost use Rattle.index.specs.State.{State, state_of};
-ghost use Rattle.index.specs.Text.{most_bytes};
-ghost use Rattle.index.specs.declared.error.BodyErrorKind.TheVariants.{TooLong as body_too_long};
+ghost use Rattle.documents.specs.declared.command.Command.TheVariants.{Put as put_command, Remove as remove_command, RemoveUnder as remove_under_command, CopyUnder as copy_under_command};
+ghost use Rattle.documents.specs.Documents.{is_taken, has_under};
+ghost use Rattle.documents.specs.State.{State, state_of};
+ghost use Rattle.documents.specs.Text.{most_bytes};
+ghost use Rattle.documents.specs.declared.error.BodyErrorKind.TheVariants.{TooLong as body_too_long};
 ghost use Rattle.input.specs.Owned.{ShowsOwned};
 ghost use Rattle.script.specs.Items.{Item, numbered};
 ghost use Rattle.transcript.specs.declared.entry.Entry.TheVariants.{Refused as refused_entry};
@@ -17,7 +17,7 @@ ghost use Rattle.service.specs.Private.Items.{IsCarriedOut};
 
 use crate::question::{Question, Texts};
 use crate::source::{Fault, Source};
-use index::{Body, BodyErrorKind, Lengths, Name, NameError};
+use documents::{Body, BodyErrorKind, Lengths, Name, NameError};
 use input::{OwnedItem, ReadItem};
 use published::{CopyError, Desk, PutErrorKind, RemoveError, Told};
 use std::alloc::Global;

@@ -12,7 +12,7 @@ use crate::naming::Naming;
 use crate::reader::Reader;
 use crate::service::Service;
 use crate::turns::{Last, Turns};
-use index::Lengths;
+use documents::Lengths;
 use published::{Desk, OpenError, Reading, Told};
 use std::alloc::{AllocError, Global};
 use std::collections::VecDeque;

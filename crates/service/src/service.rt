@@ -2,9 +2,9 @@
 
 ghost use Rattle.std.specs.Prelude.{◌≡◌, ◌≢◌, ℕ, ◌+◌, ◌<◌, ◌≤◌, ◌^◌, ◌⊎◌, List, [], ◌∷◌, All, length, Some, Contains, MatchBool, IfSome, IfNone, IfOk, OnOk, OnErr, true, is_some, take, slice_get};
 ghost use mathlib.Core.List.{IsPrefix};
-ghost use Rattle.index.specs.State.{state_of};
+ghost use Rattle.documents.specs.State.{state_of};
 ghost use Rattle.prepare.specs.Prepared.{request_of};
-ghost use Rattle.search.specs.Shown.{IsShownOf};
+ghost use Rattle.views.specs.ShownOf.{IsShownOf};
 ghost use Rattle.input.specs.Owned.{ShowsOwned};
 ghost use Rattle.script.specs.Items.{Item, numbered, cancel as cancel_item};
 ghost use Rattle.published.specs.Counts.{AreCountsOf};
@@ -25,17 +25,16 @@ use crate::items::{Outcome, carry_out};
 use crate::naming::Naming;
 use crate::open_search::OpenSearch;
 use crate::question::Question;
-use crate::reader::search;
 use crate::reply::Reply;
+use crate::searcher::Searcher;
 use crate::source::Source;
 use crate::tasks::{Request, Task};
 use crate::turns::Turns;
 use crate::wish::{Look, Wish};
-use index::Lengths;
+use documents::Lengths;
 use input::ReadItem;
 use prepare::Prepared;
 use published::{Counts, Desk, Reading, Told};
-use search::Unanswered;
 use std::alloc::{AllocError, Global};
 use std::collections::VecDeque;
 use std::marker::{Model, PhantomData};
@@ -44,6 +43,7 @@ use std::thread::Threads;
 use std::time::{Clock, Duration, Instant};
 use transcript::{Entry, Reason, SearchReason};
 use views::Shown;
+use watch::Unanswered;
 
 /// About how many bytes of bodies the second copy of the index gets at a time. A piece takes a few milliseconds.
 const PIECE: usize = 65_536;
@@ -327,7 +327,7 @@ impl<J: Naming> Service<J> {
     /// time was over. If there is no answer, or it is not accepted, the patterns are read again and the search is
     /// answered here, from what was published last; if memory or its time runs out for that too, it is refused. `None`
     /// means that the search is not open.
-    pub fn answered<R: Wait + Clock>(
+    pub fn answered<F: Searcher, R: Wait + Clock>(
         &mut self,
         rt: &R,
         alloc: Global,
@@ -347,17 +347,17 @@ impl<J: Naming> Service<J> {
             is_late,
         } = done;
         match found {
-            Some(found) => Some(self.accept(rt, alloc, place, &question, found)),
+            Some(found) => Some(self.accept::<F, R>(rt, alloc, place, &question, found)),
             None if is_late && self.search_ms.is_some() => {
                 Some(self.refuse_at(place, SearchReason::TooSlow))
             }
-            _ => Some(self.answer_anew(rt, alloc, place)),
+            _ => Some(self.answer_anew::<F, R>(rt, alloc, place)),
         }
     }
 
     /// Answers an open search here, as reader 0, from what was published last. It is refused if memory or its time runs
     /// out. `None` means that the search is not open.
-    pub fn answer_here<R: Wait + Clock>(
+    pub fn answer_here<F: Searcher, R: Wait + Clock>(
         &mut self,
         rt: &R,
         alloc: Global,
@@ -370,7 +370,7 @@ impl<J: Naming> Service<J> {
         ensures searches { self.new.searches ≡ self.old.searches }
     {
         let place = place_in(&self.awaited, task.number)?;
-        Some(self.answer_at(rt, alloc, place, &task.request))
+        Some(self.answer_at::<F, R>(rt, alloc, place, &task.request))
     }
 
     /// Takes note of a search for which a reader has taken what it needs: the reader's next turn is set aside for it, so that it can
@@ -402,7 +402,12 @@ impl<J: Naming> Service<J> {
 
     /// Reads the patterns of the search at this place again, and answers it here, as reader 0, or refuses it if memory runs
     /// out.
-    fn answer_anew<R: Wait + Clock>(&mut self, rt: &R, alloc: Global, place: usize) -> Entry
+    fn answer_anew<F: Searcher, R: Wait + Clock>(
+        &mut self,
+        rt: &R,
+        alloc: Global,
+        place: usize,
+    ) -> Entry
         requires { place < length self.old.awaited }
         ensures gives { Gives self.old result self.new }
         ensures own { IsOwnEntry self.old.awaited place result }
@@ -412,13 +417,13 @@ impl<J: Naming> Service<J> {
             return self.refuse_at(place, SearchReason::OutOfMemory);
         };
         match Request::read(alloc, question) {
-            Ok(request) => self.answer_at(rt, alloc, place, &request),
+            Ok(request) => self.answer_at::<F, R>(rt, alloc, place, &request),
             Err(_) => self.refuse_at(place, SearchReason::OutOfMemory),
         }
     }
 
     /// Answers the search at this place here, as reader 0, or refuses it if memory or its time runs out.
-    fn answer_at<R: Wait + Clock>(
+    fn answer_at<F: Searcher, R: Wait + Clock>(
         &mut self,
         rt: &R,
         alloc: Global,
@@ -435,7 +440,7 @@ impl<J: Naming> Service<J> {
         }
         let search = &self.awaited[place];
         let prepared = &request.prepared;
-        match answer_last(
+        match answer_last::<F, R>(
             rt,
             alloc,
             &mut self.reading,
@@ -463,7 +468,7 @@ impl<J: Naming> Service<J> {
 
     /// Closes the search at this place with what a reader found for this question, if that is accepted. Otherwise the search is
     /// answered anew.
-    fn accept<R: Wait + Clock>(
+    fn accept<F: Searcher, R: Wait + Clock>(
         &mut self,
         rt: &R,
         alloc: Global,
@@ -484,13 +489,13 @@ impl<J: Naming> Service<J> {
             of: _,
         } = found;
         if self.can_stand(place, question, &seen, &answer) {
-            return self.close_by(rt, alloc, place, reader, answer);
+            return self.close_by::<F, R>(rt, alloc, place, reader, answer);
         }
-        self.answer_anew(rt, alloc, place)
+        self.answer_anew::<F, R>(rt, alloc, place)
     }
 
     /// Closes the search at this place with the answer of a reader. If no turn is in order for it, the search is answered anew.
-    fn close_by<R: Wait + Clock>(
+    fn close_by<F: Searcher, R: Wait + Clock>(
         &mut self,
         rt: &R,
         alloc: Global,
@@ -506,7 +511,7 @@ impl<J: Naming> Service<J> {
     {
         match self.close_with(place, reader, answer) {
             Some(entry) => entry,
-            None => self.answer_anew(rt, alloc, place),
+            None => self.answer_anew::<F, R>(rt, alloc, place),
         }
     }
 
@@ -615,7 +620,7 @@ fn keep(kept: &mut VecDeque<u32>, version: u32)
 
 /// Searches until the answer is of the version that was published last. An `Err` means that memory ran out, or that the
 /// search is not wanted any more.
-fn answer_last<R: Wait + Clock>(
+fn answer_last<F: Searcher, R: Wait + Clock>(
     rt: &R,
     alloc: Global,
     reading: &mut Reading,
@@ -629,9 +634,9 @@ fn answer_last<R: Wait + Clock>(
 {
     let begun = Instant::now(rt).ok();
     reading.learn(told);
-    let look = Look::at(rt, wish);
+    let look = Look { rt, wish };
     for _ in rt.forever() {
-        match search(alloc, reading, prepared, look) {
+        match F::search(alloc, reading, prepared, look) {
             Ok(answer) => {
                 if answer.version() == told.version() {
                     let worked = begun.and_then(|begun| begun.elapsed(rt).ok());

@@ -18,7 +18,7 @@ use transcript::SearchReason;
 
 /// A search with its patterns, read. Contracts see it as its item and what was read.
 #[derive(Debug, Drop)]
-pub(crate) struct Request {
+pub struct Request {
     /// The texts of the search.
     pub(crate) question: Question,
     /// Its patterns, read.
@@ -26,7 +26,7 @@ pub(crate) struct Request {
 }
 
 impl Model for Request {
-    ghost use Rattle.service.specs.Private.Requests.{Asked, asked};
+    ghost use Rattle.service.specs.Request.{Asked};
     ghost use Rattle.prepare.specs.Prepared.{request_of};
     ghost use Rattle.steps.specs.Asked.{Asks};
 
@@ -37,7 +37,7 @@ impl Model for Request {
 
     ghost coded = { Prim.hlevel (codes, patterns.the_row.coded) };
 
-    ghost view = { λ r. asked r.question r.prepared };
+    ghost view = { λ r. record { item = r.question; prepared = r.prepared } };
 
     ghost invariant = { λ r. Asks r.question (request_of r.prepared) };
 }
@@ -55,6 +55,13 @@ impl Request {
             Ok(prepared) => Ok(Request { question, prepared }),
             Err(reason) => Err(reason),
         }
+    }
+
+    /// Its patterns, read.
+    pub fn prepared(&self) -> &Prepared
+        ensures { result.now ≡ self.now.prepared }
+    {
+        &self.prepared
     }
 }
 
@@ -158,6 +165,19 @@ impl Task {
             Texts::Find { words } => lane_of(alloc, words),
             _ => Vec::new(alloc),
         }
+    }
+
+    /// Its number, the search with its patterns, whether it is still wanted, and in how many threads its lines may be matched.
+    pub fn into_parts(self) -> (u32, Request, Wish, usize)
+        ensures { result.0 ≡ self }
+    {
+        let Task {
+            number,
+            request,
+            wish,
+            parts,
+        } = self;
+        (number, request, wish, parts)
     }
 }
 

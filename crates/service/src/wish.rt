@@ -1,19 +1,19 @@
 //! Searches that are not wanted any more.
 
-ghost use Rattle.index.specs.State.{State};
+ghost use Rattle.documents.specs.State.{State};
 ghost use Rattle.prepare.specs.Request.{Request as RequestValue};
-ghost use Rattle.search.specs.Shown.{IsShownOf};
+ghost use Rattle.views.specs.ShownOf.{IsShownOf};
 
-use search::{Watch, times_show_nothing};
 use std::alloc::{AllocError, Global};
 use std::sync::Arc;
 use std::sync::atomic::{AtomicBool, Ordering};
 use std::time::{Clock, Duration, Instant};
-use views::{Shown, Times};
+use views::{Shown, Times, times_show_nothing};
+use watch::Watch;
 
 /// Whether a search is still wanted: it was not called off, and its time is not over.
 #[derive(Drop)]
-pub(crate) struct Wish {
+pub struct Wish {
     called_off: Arc<AtomicBool, Global>,
     /// When its time is over. `None` means that it has no limit of time.
     until: Option<Instant>,
@@ -48,7 +48,7 @@ impl Wish {
     }
 
     /// The answer with its times, if they are shown: so long was worked for it.
-    pub(crate) fn timed<R: Clock>(&self, rt: &R, worked: Duration, answer: Shown) -> Shown
+    pub fn timed<R: Clock>(&self, rt: &R, worked: Duration, answer: Shown) -> Shown
         ensures { (state : State) (request : RequestValue) → IsShownOf state request answer → IsShownOf state request result }
     {
         times_show_nothing();
@@ -79,7 +79,7 @@ impl Wish {
     }
 
     /// Whether the search is not wanted any more.
-    pub(crate) fn is_over<R: Clock>(&self, rt: &R) -> bool {
+    fn is_over<R: Clock>(&self, rt: &R) -> bool {
         self.is_called_off() || self.is_late(rt)
     }
 
@@ -107,9 +107,9 @@ fn end_of<R: Clock>(rt: &R, search_ms: Option<u32>) -> Option<Instant> {
 }
 
 /// What a thread that searches looks at: whether its search is still wanted.
-pub(crate) struct Look<'a, R> {
-    rt: &'a R,
-    wish: &'a Wish,
+pub struct Look<'a, R> {
+    pub rt: &'a R,
+    pub wish: &'a Wish,
 }
 
 impl<'a, R> Clone for Look<'a, R> {
@@ -119,13 +119,6 @@ impl<'a, R> Clone for Look<'a, R> {
 }
 
 impl<'a, R> Copy for Look<'a, R> {}
-
-impl<'a, R: Clock> Look<'a, R> {
-    /// What looks at this wish, with the clock of this runtime.
-    pub(crate) fn at(rt: &'a R, wish: &'a Wish) -> Look<'a, R> {
-        Look { rt, wish }
-    }
-}
 
 impl<R: Clock> Watch for Look<'_, R> {
     // Other threads call the wish off, and time passes: what it said is in no value that a contract can name.

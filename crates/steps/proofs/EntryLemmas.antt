@@ -1,8 +1,8 @@
 -- What the entries of items can be, and that they are legal.
 use Rattle.std.proofs.Common.{◌≡◌, ℕ, ◌+◌, ◌≤◌, Bool, true, false, List, [], Option, Some, None, refl, sym, ap, subst, arith}
-use Rattle.index.specs.State.{State}
-use Rattle.index.specs.declared.error.NameError.TheVariants as name_error
-use Rattle.index.specs.declared.lengths.Lengths.{Lengths}
+use Rattle.documents.specs.State.{State}
+use Rattle.documents.specs.declared.error.NameError.TheVariants as name_error
+use Rattle.documents.specs.declared.lengths.Lengths.{Lengths}
 use Rattle.prepare.specs.Request.{Request}
 use Rattle.script.specs.Items.{Item, put, load, remove, remove_under, copy_under, publish, search, search_in, find, sync, cancel, status, bad_line, bad_put, truncated, body_not_closed}
 use Rattle.transcript.specs.declared.entry.Entry.{Entry}

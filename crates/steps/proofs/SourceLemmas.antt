@@ -1,7 +1,7 @@
 -- What is legal for one source is legal for a source that holds as much.
 use Rattle.std.proofs.Common.{ℕ, List, Option}
-use Rattle.index.specs.State.{State}
-use Rattle.index.specs.declared.lengths.Lengths.{Lengths}
+use Rattle.documents.specs.State.{State}
+use Rattle.documents.specs.declared.lengths.Lengths.{Lengths}
 use Rattle.script.specs.Items.{Item, Numbered, load}
 use Rattle.transcript.specs.declared.entry.Entry.{Entry}
 use Rattle.steps.specs.LegalRows.{Limits, IsNamed, HasLoaded, IsCommandEntry}

@@ -3,7 +3,7 @@ use Rattle.std.proofs.Common.{◌≡◌, ℕ, ◌+◌, ◌<◌, ◌⊎◌, inl, 
 use Rattle.std.proofs.Common.{◌∙◌, ◌≤◌, subst, arith, slice_get}
 use Rattle.std.specs.List.{AllByRecursion, Contains}
 use Rattle.std.proofs.lemmas.List.{append-nil}
-use Rattle.index.specs.State.{state_of}
+use Rattle.documents.specs.State.{state_of}
 use Rattle.prepare.specs.Request.{Request}
 use Rattle.views.specs.Shown.{Shown}
 use Rattle.script.specs.Items.{Item, Numbered, cancel, status}

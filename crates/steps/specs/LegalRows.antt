@@ -2,16 +2,16 @@
 use Rattle.std.specs.Prelude.{◌≡◌, ◌≢◌, ℕ, ◌+◌, ◌-◌, ◌^◌, ◌<◌, ◌≤◌, ◌⊎◌, List, ◌∷◌, ◌++◌, length, map, take, Option, Some, None, option_map, IfSome}
 use Rattle.std.specs.Prelude.{Contains, if◌then◌else◌, ◌==◌, Bool, false, true, unwrap_or}
 use Rattle.std.specs.FinMap.{len}
-use Rattle.index.specs.declared.error.NameError.{NameError}
-use Rattle.index.specs.declared.error.NameError.TheVariants as name_error
-use Rattle.index.specs.declared.error.BodyErrorKind.{BodyErrorKind}
-use Rattle.index.specs.declared.command.Command.{Command}
-use Rattle.index.specs.declared.lengths.Lengths.{Lengths}
-use Rattle.index.specs.Documents.{Documents, is_taken, has_under, has_long_copy}
-use Rattle.index.specs.State.{State, state_of, body_bytes}
-use Rattle.index.specs.Text.{IsNameOf, IsNameFault, most_name_bytes, IsBodyOf, IsBodyFault}
+use Rattle.documents.specs.declared.error.NameError.{NameError}
+use Rattle.documents.specs.declared.error.NameError.TheVariants as name_error
+use Rattle.documents.specs.declared.error.BodyErrorKind.{BodyErrorKind}
+use Rattle.documents.specs.declared.command.Command.{Command}
+use Rattle.documents.specs.declared.lengths.Lengths.{Lengths}
+use Rattle.documents.specs.Documents.{Documents, is_taken, has_under, has_long_copy}
+use Rattle.documents.specs.State.{State, state_of, body_bytes}
+use Rattle.documents.specs.Text.{IsNameOf, IsNameFault, most_name_bytes, IsBodyOf, IsBodyFault}
 use Rattle.prepare.specs.Request.{Request}
-use Rattle.search.specs.Shown.{IsShownOf}
+use Rattle.views.specs.ShownOf.{IsShownOf}
 use Rattle.views.specs.Shown.{Shown}
 use Rattle.script.specs.Items.{Item, put, load, remove, remove_under, copy_under, publish, search, search_in, find, sync, cancel, status, bad_line, bad_put, truncated, body_not_closed}
 use Rattle.transcript.specs.declared.entry.Entry.{Entry}

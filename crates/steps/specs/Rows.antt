@@ -1,7 +1,7 @@
 -- A run of a script as rows: each item with its entry and, if it is a load, what the source answered.
 use Rattle.std.specs.Prelude.{ℕ, ◌+◌, Bool, true, false, option_map, if◌then◌else◌, List, [], ◌∷◌, ◌++◌, map, flat_map, Option, Some, None}
-use Rattle.index.specs.declared.command.Command.{Command}
-use Rattle.index.specs.declared.command.Command.TheVariants.{Put, Remove, RemoveUnder, CopyUnder}
+use Rattle.documents.specs.declared.command.Command.{Command}
+use Rattle.documents.specs.declared.command.Command.TheVariants.{Put, Remove, RemoveUnder, CopyUnder}
 use Rattle.script.specs.Items.{Item, Numbered, put, load, remove, remove_under, copy_under, search, search_in, find, sync}
 use Rattle.transcript.specs.declared.entry.Entry.{Entry}
 use Rattle.transcript.specs.declared.entry.Reason.TheVariants.{CannotLoad}

@@ -1,10 +1,10 @@
 -- Which entries may be written for which items, in which order, whatever the readers and their timing.
 use Rattle.std.specs.Prelude.{◌≡◌, ◌≢◌, ℕ, ◌+◌, ◌<◌, ◌≤◌, ◌⊎◌, List, [], ◌∷◌, ◌++◌, length, take, drop}
 use Rattle.std.specs.Prelude.{Option, Some, Contains, slice_get, false, true, All}
-use Rattle.index.specs.declared.command.Command.{Command}
-use Rattle.index.specs.State.{state_of}
+use Rattle.documents.specs.declared.command.Command.{Command}
+use Rattle.documents.specs.State.{state_of}
 use Rattle.prepare.specs.Request.{Request}
-use Rattle.search.specs.Shown.{IsShownOf}
+use Rattle.views.specs.ShownOf.{IsShownOf}
 use Rattle.views.specs.Shown.{Shown}
 use Rattle.script.specs.Items.{Item, Numbered, cancel, status}
 use Rattle.transcript.specs.declared.entry.Entry.{Entry}

@@ -1,9 +1,9 @@
 -- The texts of refusals (this program's choice).
 use Rattle.std.specs.Prelude.{ℕ, List, codes}
-use Rattle.index.specs.declared.error.NameError.{NameError}
-use Rattle.index.specs.declared.error.NameError.TheVariants as name
-use Rattle.index.specs.declared.error.BodyErrorKind.{BodyErrorKind}
-use Rattle.index.specs.declared.error.BodyErrorKind.TheVariants as body
+use Rattle.documents.specs.declared.error.NameError.{NameError}
+use Rattle.documents.specs.declared.error.NameError.TheVariants as name
+use Rattle.documents.specs.declared.error.BodyErrorKind.{BodyErrorKind}
+use Rattle.documents.specs.declared.error.BodyErrorKind.TheVariants as body
 use Rattle.transcript.specs.declared.entry.Reason.{Reason}
 use Rattle.transcript.specs.declared.entry.Reason.TheVariants as line
 

@@ -3,8 +3,8 @@
 ghost use Rattle.std.specs.Prelude.{◌≡◌};
 ghost use Rattle.transcript.specs.Transcript.{is_refusal, has_hit};
 
+use documents::{BodyErrorKind, NameError};
 use ere::EreError;
-use index::{BodyErrorKind, NameError};
 use views::Shown;
 
 /// Why a line of a script is refused.

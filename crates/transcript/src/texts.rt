@@ -8,8 +8,8 @@ ghost use Rattle.transcript.specs.Heads.{head_of_entry};
 ghost use Rattle.transcript.specs.Transcript.{line_refusal, search_refusal, status_line};
 
 use crate::entry::{Entry, Reason, SearchReason};
+use documents::{BodyErrorKind, NameError};
 use ere::EreError;
-use index::{BodyErrorKind, NameError};
 use itoa::Buffer;
 use std::alloc::AllocError;
 use views::append_all;

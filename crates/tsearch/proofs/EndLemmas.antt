@@ -22,11 +22,11 @@ use Rattle.tsearch.specs.declared.serving.LiveOptions.{LiveOptions}
 use Rattle.tsearch.specs.Legal.{IsLegal}
 use Rattle.tsearch.specs.Legal as legal
 use Rattle.tsearch.specs.Served.{AreSteps, IsServed, IsBroken, limits_in}
-use Rattle.tsearch.specs.Private.Running.{now, start_at, first_run}
-use Rattle.tsearch.specs.Private.Serving.{IsCutOff, IsDone}
+use Rattle.event_loop.specs.Running.{now, start_at, first_run}
+use Rattle.event_loop.specs.Serving.{IsCutOff, IsDone}
 use Rattle.tsearch.specs.Private.Sinks.{status_by, marks_of}
-use Rattle.tsearch.proofs.RunLemmas.{none_failed}
-use Rattle.tsearch.proofs.ServingLemmas.{first_is_first, shown_split}
+use Rattle.event_loop.proofs.RunLemmas.{none_failed}
+use Rattle.event_loop.proofs.ServingLemmas.{first_is_first, shown_split}
 use Rattle.tsearch.proofs.SinkLemmas.{collects, told_collected, collected_whole, writes, writes_front, told_written, front_written, written_all}
 
 module _ {O : Type 0} (Holds : List ℕ → List ℕ → Type 0) (options : Options) (script : List ℕ) (failed : ℕ) (first : CollectedState) (begin : O)

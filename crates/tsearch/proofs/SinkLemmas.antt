@@ -19,11 +19,12 @@ use Rattle.steps.specs.StepRows as rows_of
 use Rattle.service.specs.Collected.{CollectedState, IsCollected, number_in, place_in, place_by, slot_by}
 use Rattle.service.proofs.CollectedLemmas.{AreAnswered, slots_at_end, collected_more, collected_same, collected_filled}
 use Rattle.tsearch.specs.declared.marks.Marks.{Marks}
-use Rattle.tsearch.specs.declared.sink.News.{News}
-use Rattle.tsearch.specs.declared.sink.News.TheVariants as news
-use Rattle.tsearch.specs.Private.Running.{Told, told_nothing, entered, opened, passed, answered, ToldFront, entries_by}
-use Rattle.tsearch.specs.Private.Running as running
-use Rattle.tsearch.specs.Private.Sinks.{Collects, Writes, WritesFront, marks_of, marks_with}
+use Rattle.event_loop.specs.declared.sink.News.{News}
+use Rattle.event_loop.specs.declared.sink.News.TheVariants as news
+use Rattle.event_loop.specs.Running.{Told, told_nothing, entered, opened, passed, answered, ToldFront, entries_by}
+use Rattle.event_loop.specs.Running as running
+use Rattle.event_loop.specs.Collects.{Collects}
+use Rattle.tsearch.specs.Private.Sinks.{Writes, WritesFront, marks_of, marks_with}
 
 -- The entries of a run are collected.
 

@@ -1,14 +1,16 @@
 //! The threads of a run or a session, and the channels between them and it.
 
 use crossbeam_channel::{Receiver, RecvTimeoutError, Sender, bounded};
+use event_loop::{Crew, Event};
 use input::{Feed, Next};
-use service::{Begun, Done, Gate, Line, Post, Reader, Stops, Task};
+use service::{Begun, Done, Reader, Task};
 use std::alloc::{AllocError, Global};
 use std::io::BufRead;
 use std::marker::PhantomData;
 use std::sync::{Arc, Wait};
 use std::thread::{self, Scope, Threads};
 use std::time::{Clock, Duration};
+use workers::{Gate, Mailbox, Queue, Stops};
 
 /// How many events can wait for a session. A thread that has one more waits, so few answers are in memory at a time.
 const EVENTS: usize = 8;
@@ -25,27 +27,6 @@ const TEXT_AHEAD: usize = 1_048_576;
 /// How many bytes of an answer's text a reader forms in a run: none, since a run keeps its answers until the end.
 const NO_TEXT: usize = 0;
 
-/// What a run or a session waits for: an item or the end of the reading, or an answer.
-#[derive(Drop)]
-pub(crate) enum Event<J: service::Naming, K: input::Naming> {
-    /// An item, or the end of the reading.
-    Read(Next<K>),
-    /// An answer.
-    Answer(Done<J>),
-}
-
-impl<J: service::Naming, K: input::Naming> From<Done<J>> for Event<J, K> {
-    fn from(done: Done<J>) -> Event<J, K> {
-        Event::Answer(done)
-    }
-}
-
-impl<J: service::Naming, K: input::Naming> From<Next<K>> for Event<J, K> {
-    fn from(next: Next<K>) -> Event<J, K> {
-        Event::Read(next)
-    }
-}
-
 /// One more item can be read.
 #[derive(Drop)]
 struct Permit;
@@ -53,7 +34,7 @@ struct Permit;
 /// The threads that answer searches, and what comes from them. It is of type M.
 #[derive(Drop)]
 struct Workers<J: service::Naming, M> {
-    line: Arc<Line<J, Task>, Global>,
+    queue: Arc<Queue<J, Task>, Global>,
     events: Receiver<M>,
 }
 
@@ -72,7 +53,7 @@ enum Reading<K: input::Naming, I: BufRead + Drop> {
 
 /// Who reads the input and answers the searches.
 #[derive(Drop)]
-pub(crate) struct Crew<J: service::Naming, K: input::Naming, I: BufRead + Drop> {
+pub(crate) struct ThreadedCrew<J: service::Naming, K: input::Naming, I: BufRead + Drop> {
     reading: Reading<K, I>,
     /// The threads that answer searches, if there are any.
     workers: Option<Workers<J, Event<J, K>>>,
@@ -101,11 +82,11 @@ pub(crate) struct Lent<'a, J, K, R, G> {
     pub(crate) of: &'a PhantomData<(J, K)>,
 }
 
-impl<J: service::Naming + Send + Sync, K: input::Naming + Send + Sync, I: BufRead + Drop> Crew<
-    J,
-    K,
-    I,
-> {
+impl<
+    J: service::Naming + Send + Sync,
+    K: input::Naming + Send + Sync,
+    I: BufRead + Drop,
+> ThreadedCrew<J, K, I> {
     /// Starts the readers of a run, each in a thread of its own, which ends after the crew is dropped. The calling thread
     /// reads. Where there is no memory for the threads, or one cannot be started, there are fewer of them, or none.
     pub(crate) fn in_scope<'s, 'a: 's, E, R: Threads + Wait + Clock + Sync, G: Gate>(
@@ -113,9 +94,9 @@ impl<J: service::Naming + Send + Sync, K: input::Naming + Send + Sync, I: BufRea
         lent: &Lent<'a, J, K, R, G>,
         feed: Feed<K, I>,
         readers: Vec<Reader<J>>,
-    ) -> Crew<J, K, I> {
+    ) -> ThreadedCrew<J, K, I> {
         let workers = start_scoped(scope, lent, readers);
-        Crew {
+        ThreadedCrew {
             reading: Reading::here(feed),
             workers,
         }
@@ -142,16 +123,16 @@ fn start_scoped<
     let (sent, events) = bounded::<Event<J, K>, Global>(lent.alloc, ANSWERS).ok()?;
     let most = readers.len();
     // All entries come at the end, so no search waits for another.
-    let line = Arc::new(lent.alloc, Line::new(lent.alloc, readers, Stops::Never)).ok()?;
+    let queue = Arc::new(lent.alloc, Queue::new(lent.alloc, readers, Stops::Never)).ok()?;
     let mut any = false;
     for _ in 0..most {
-        if !start_in(scope, lent, &line, &sent) {
+        if !start_in(scope, lent, &queue, &sent) {
             break;
         }
         any = true;
     }
     if any {
-        Some(Workers { line, events })
+        Some(Workers { queue, events })
     } else {
         None
     }
@@ -169,24 +150,24 @@ fn start_in<
 >(
     scope: &Scope<'s, E>,
     lent: &Lent<'a, J, K, R, G>,
-    line: &Arc<Line<J, Task>, Global>,
+    queue: &Arc<Queue<J, Task>, Global>,
     events: &Sender<Event<J, K>>,
 ) -> bool {
-    let Ok(own) = Arc::try_clone(line) else {
+    let Ok(own) = Arc::try_clone(queue) else {
         return false;
     };
     let Ok(events) = events.clone() else {
         return false;
     };
     let (rt, alloc, gate) = (lent.rt, lent.alloc, lent.gate);
-    let Some(post) = line.admit(rt) else {
+    let Some(mailbox) = queue.add_thread(rt) else {
         return false;
     };
     if scope
-        .spawn(move || work_on(rt, alloc, &own, &post, &events, NO_TEXT, gate))
+        .spawn(move || work_on(rt, alloc, &own, &mailbox, &events, NO_TEXT, gate))
         .is_err()
     {
-        line.dismiss(rt);
+        queue.remove_thread(rt);
         return false;
     }
     true
@@ -203,22 +184,22 @@ fn work_on<
 >(
     rt: &R,
     alloc: Global,
-    line: &Arc<Line<J, T>, Global>,
-    post: &Arc<Post<J, T>, Global>,
+    queue: &Arc<Queue<J, T>, Global>,
+    mailbox: &Arc<Mailbox<J, T>, Global>,
     events: &Sender<M>,
     ahead: usize,
     gate: &G,
 ) {
-    let mut left = None;
+    let mut released = None;
     for _ in rt.forever() {
-        let Some(job) = line.next(rt, post, left) else {
+        let Some(assignment) = queue.next(rt, mailbox, released) else {
             return;
         };
-        let (back, done) = line.answer(rt, alloc, post, job, ahead, gate);
+        let (back, done) = queue.answer(rt, alloc, mailbox, assignment, ahead, gate);
         if events.send(rt, M::from(done)).is_err() {
             return;
         }
-        left = Some(back);
+        released = Some(back);
     }
 }
 
@@ -226,7 +207,7 @@ impl<
     J: service::Naming + Send + Sync + 'static,
     K: input::Naming + Send + Sync + 'static,
     I: BufRead + Drop + Send + 'static,
-> Crew<J, K, I> {
+> ThreadedCrew<J, K, I> {
     /// Starts a thread for each reader of a session, one that reads the input, and one that starts more as searches are stopped.
     /// Where there is no memory for that, or a thread cannot be started, there are fewer, or none at all. The threads are not waited
     /// for. Those that search and the one that starts them end once no search can come any more, and the one that reads once it has
@@ -234,13 +215,19 @@ impl<
     pub(crate) fn start<
         R: Threads + Wait + Clock + Sync + Send + Copy + 'static,
         G: Gate + Copy + Send + 'static,
-    >(rt: &R, alloc: Global, feed: Feed<K, I>, readers: Vec<Reader<J>>, gate: G) -> Crew<J, K, I> {
+    >(
+        rt: &R,
+        alloc: Global,
+        feed: Feed<K, I>,
+        readers: Vec<Reader<J>>,
+        gate: G,
+    ) -> ThreadedCrew<J, K, I> {
         match start_threads::<J, K, I, Event<J, K>, R, G>(rt, alloc, feed, readers, gate) {
-            Ok((workers, permits)) => Crew {
+            Ok((workers, permits)) => ThreadedCrew {
                 reading: Reading::Thread(permits),
                 workers: Some(workers),
             },
-            Err(feed) => Crew {
+            Err(feed) => ThreadedCrew {
                 reading: Reading::here(feed),
                 workers: None,
             },
@@ -272,13 +259,13 @@ fn start_threads<
     let Ok((permits, permitted)) = bounded::<Permit, Global>(alloc, AHEAD) else {
         return Err(feed);
     };
-    let Some(line) = start_workers(rt, alloc, readers, &sent, gate) else {
+    let Some(queue) = start_workers(rt, alloc, readers, &sent, gate) else {
         return Err(feed);
     };
     match start_reading(rt, feed, permitted, sent, permits) {
-        Ok(permits) => Ok((Workers { line, events }, permits)),
+        Ok(permits) => Ok((Workers { queue, events }, permits)),
         Err(feed) => {
-            line.close(rt);
+            queue.close(rt);
             Err(feed)
         }
     }
@@ -298,24 +285,24 @@ fn start_workers<
     readers: Vec<Reader<J>>,
     events: &Sender<M>,
     gate: G,
-) -> Option<Arc<Line<J, T>, Global>> {
+) -> Option<Arc<Queue<J, T>, Global>> {
     let most = readers.len();
     let stops = if gate.stops() {
         Stops::Always
     } else {
         Stops::InTurn
     };
-    let line = Arc::new(alloc, Line::new(alloc, readers, stops)).ok()?;
+    let queue = Arc::new(alloc, Queue::new(alloc, readers, stops)).ok()?;
     let mut started = false;
     for _ in 0..most {
-        if !start_worker(rt, alloc, &line, events, gate) {
+        if !start_worker(rt, alloc, &queue, events, gate) {
             break;
         }
         started = true;
     }
     if started {
-        start_starter(rt, alloc, &line, events, gate);
-        Some(line)
+        start_starter(rt, alloc, &queue, events, gate);
+        Some(queue)
     } else {
         None
     }
@@ -328,8 +315,8 @@ fn start_starter<
     M: From<Done<J>> + Drop + Send + 'static,
     R: Threads + Wait + Clock + Sync + Send + Copy + 'static,
     G: Gate + Copy + Send + 'static,
->(rt: &R, alloc: Global, line: &Arc<Line<J, T>, Global>, events: &Sender<M>, gate: G) {
-    let Ok(own) = Arc::try_clone(line) else {
+>(rt: &R, alloc: Global, queue: &Arc<Queue<J, T>, Global>, events: &Sender<M>, gate: G) {
+    let Ok(own) = Arc::try_clone(queue) else {
         return;
     };
     let Ok(events) = events.clone() else {
@@ -346,12 +333,12 @@ fn start_more<
     M: From<Done<J>> + Drop + Send + 'static,
     R: Threads + Wait + Clock + Sync + Send + Copy + 'static,
     G: Gate + Copy + Send + 'static,
->(rt: R, alloc: Global, line: Arc<Line<J, T>, Global>, events: Sender<M>, gate: G) {
+>(rt: R, alloc: Global, queue: Arc<Queue<J, T>, Global>, events: Sender<M>, gate: G) {
     for _ in rt.forever() {
-        if !line.needs_thread(&rt) {
+        if !queue.needs_thread(&rt) {
             return;
         }
-        let _ = start_worker(&rt, alloc, &line, &events, gate);
+        let _ = start_worker(&rt, alloc, &queue, &events, gate);
     }
 }
 
@@ -362,21 +349,21 @@ fn start_worker<
     M: From<Done<J>> + Drop + Send + 'static,
     R: Threads + Wait + Clock + Sync + Send + Copy + 'static,
     G: Gate + Copy + Send + 'static,
->(rt: &R, alloc: Global, line: &Arc<Line<J, T>, Global>, events: &Sender<M>, gate: G) -> bool {
-    let Some(post) = line.admit(rt) else {
+>(rt: &R, alloc: Global, queue: &Arc<Queue<J, T>, Global>, events: &Sender<M>, gate: G) -> bool {
+    let Some(mailbox) = queue.add_thread(rt) else {
         return false;
     };
-    let Ok(own) = Arc::try_clone(line) else {
-        line.dismiss(rt);
+    let Ok(own) = Arc::try_clone(queue) else {
+        queue.remove_thread(rt);
         return false;
     };
     let Ok(events) = events.clone() else {
-        line.dismiss(rt);
+        queue.remove_thread(rt);
         return false;
     };
     let host = *rt;
-    if thread::spawn(rt, move || work(host, alloc, own, post, events, gate)).is_err() {
-        line.dismiss(rt);
+    if thread::spawn(rt, move || work(host, alloc, own, mailbox, events, gate)).is_err() {
+        queue.remove_thread(rt);
         return false;
     }
     true
@@ -392,12 +379,12 @@ fn work<
 >(
     rt: R,
     alloc: Global,
-    line: Arc<Line<J, T>, Global>,
-    post: Arc<Post<J, T>, Global>,
+    queue: Arc<Queue<J, T>, Global>,
+    mailbox: Arc<Mailbox<J, T>, Global>,
     events: Sender<M>,
     gate: G,
 ) {
-    work_on(&rt, alloc, &line, &post, &events, TEXT_AHEAD, &gate);
+    work_on(&rt, alloc, &queue, &mailbox, &events, TEXT_AHEAD, &gate);
 }
 
 /// Starts the thread that reads the input, and hands out the first permits. An `Err` means that it could not be started,
@@ -451,23 +438,19 @@ fn read<K: input::Naming, I: BufRead + Drop, M: From<Next<K>> + Drop, R: Wait + 
     feed
 }
 
-impl<J: service::Naming, K: input::Naming, I: BufRead + Drop> Crew<J, K, I> {
-    /// Whether no reader is at work in a thread.
-    pub(crate) fn is_alone(&self) -> bool {
+impl<J: service::Naming, K: input::Naming, I: BufRead + Drop> Crew<J, K> for ThreadedCrew<J, K, I> {
+    fn is_alone(&self) -> bool {
         self.workers.is_none()
     }
 
-    /// An event, if there is one already.
-    pub(crate) fn ready<R: Wait>(&self, rt: &R) -> Option<Event<J, K>> {
+    fn ready<R: Wait>(&self, rt: &R) -> Option<Event<J, K>> {
         match &self.workers {
             Some(workers) => workers.events.try_recv(rt).ok(),
             None => None,
         }
     }
 
-    /// Waits for the next event. If the calling thread reads, it is the next item or the end of the reading, once the item
-    /// before it was taken. `None` means that the threads have ended, which they do not while the crew lasts.
-    pub(crate) fn next<R: Wait>(&mut self, rt: &R) -> Option<Event<J, K>> {
+    fn next<R: Wait>(&mut self, rt: &R) -> Option<Event<J, K>> {
         if let Reading::Here { feed, permitted } = &mut self.reading {
             if *permitted {
                 *permitted = false;
@@ -480,9 +463,7 @@ impl<J: service::Naming, K: input::Naming, I: BufRead + Drop> Crew<J, K, I> {
         }
     }
 
-    /// Waits for the next event from a thread, for about this long if there is a limit. `Timeout` means that none came in this time,
-    /// or that the clock cannot be read, and `Disconnected` that the threads have ended, which they do not while the crew lasts.
-    pub(crate) fn next_within<R: Wait + Clock>(
+    fn next_within<R: Wait + Clock>(
         &self,
         rt: &R,
         limit: Option<Duration>,
@@ -499,13 +480,11 @@ impl<J: service::Naming, K: input::Naming, I: BufRead + Drop> Crew<J, K, I> {
         }
     }
 
-    /// Whether the calling thread reads.
-    pub(crate) fn reads_here(&self) -> bool {
+    fn reads_here(&self) -> bool {
         matches!(self.reading, Reading::Here { .. })
     }
 
-    /// Lets one more item be read.
-    pub(crate) fn permit<R: Wait>(&mut self, rt: &R) {
+    fn permit<R: Wait>(&mut self, rt: &R) {
         match &mut self.reading {
             Reading::Here { permitted, .. } => *permitted = true,
             Reading::Thread(permits) => {
@@ -514,26 +493,26 @@ impl<J: service::Naming, K: input::Naming, I: BufRead + Drop> Crew<J, K, I> {
         }
     }
 
-    /// Hands a search to the readers. `None` means that they have it; if they cannot have it, it comes back.
-    pub(crate) fn hand_out<R: Wait>(&self, rt: &R, lane: Vec<u8>, task: Task) -> Option<Task> {
+    fn hand_out<R: Wait>(&self, rt: &R, lane: Vec<u8>, task: Task) -> Option<Task> {
         match &self.workers {
-            Some(workers) => workers.line.hand_out(rt, lane, task),
+            Some(workers) => workers.queue.push(rt, lane, task),
             None => Some(task),
         }
     }
 
-    /// What was taken for a search, of which the service is to take note before it takes an answer.
-    pub(crate) fn take_begun<R: Wait>(&self, rt: &R) -> Option<Begun> {
+    fn take_begun<R: Wait>(&self, rt: &R) -> Option<Begun> {
         match &self.workers {
-            Some(workers) => workers.line.take_begun(rt),
+            Some(workers) => workers.queue.take_begun(rt),
             None => None,
         }
     }
+}
 
+impl<J: service::Naming, K: input::Naming, I: BufRead + Drop> ThreadedCrew<J, K, I> {
     /// Ends: no search comes any more.
     pub(crate) fn close<R: Wait>(self, rt: &R) {
         if let Some(workers) = &self.workers {
-            workers.line.close(rt);
+            workers.queue.close(rt);
         }
     }
 }

@@ -4,18 +4,16 @@
 //! it takes items from an input, and writes each entry as soon as it is known.
 #![tactic(auto)]
 
-mod collecting;
 mod crew;
 mod error;
-mod items;
 mod marks;
 pub mod run;
 mod serving;
-mod sink;
 mod write;
 mod written;
 
-pub use error::LiveError;
+pub use event_loop::LiveError;
 pub use run::{Options, RunError};
-pub use service::{Fault, Gate, Point, Source};
+pub use service::{Fault, Source};
 pub use serving::{LiveOptions, serve};
+pub use workers::{Gate, Point};

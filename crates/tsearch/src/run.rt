@@ -8,15 +8,14 @@ ghost use Rattle.service.specs.Service.{first_service};
 ghost use Rattle.tsearch.specs.Legal.{IsLegal, limits_in};
 ghost use Rattle.tsearch.specs.Private.Sinks.{IsLegalFor};
 
-use crate::crew::{Crew, Lent};
-use crate::error::LiveError;
-use crate::items::{Plan, carry_out_all};
+use crate::crew::{Lent, ThreadedCrew};
 use core::mem::replace_with;
-use index::Lengths;
+use documents::Lengths;
+use event_loop::{LiveError, Plan, World, carry_out_all};
 use input::{Feed, Inbox};
 use published::OpenError;
 use script::MAX_SCRIPT;
-use service::{Collected, Gate, Reader, Service, Source, open};
+use service::{Collected, Reader, Service, Source, open};
 use std::alloc::Global;
 use std::io::BufRead;
 use std::marker::{Brand, PhantomData};
@@ -25,6 +24,7 @@ use std::thread::{self, Threads};
 use std::time::Clock;
 use thiserror::Error;
 use transcript::{Entry, Transcript};
+use workers::{Gate, IndexSearcher};
 
 /// How a script is run.
 #[derive(Clone, Copy, Debug, PartialEq, Eq)]
@@ -173,6 +173,35 @@ fn run_as<
     ran
 }
 
+/// The types of a run.
+struct Scripted<J, K, R, S, I> {
+    of: PhantomData<(J, K, R, S, I)>,
+}
+
+impl<
+    J: service::Naming,
+    K: input::Naming,
+    R: Threads + Wait + Clock + Sync,
+    S: Source,
+    I: BufRead + Drop,
+> World for Scripted<J, K, R, S, I> {
+    type Opening = J;
+
+    type Items = K;
+
+    type Runtime = R;
+
+    type Source = S;
+
+    type Crew = ThreadedCrew<J, K, I>;
+
+    type Searcher = IndexSearcher;
+
+    type Sink = Collected;
+
+    type Output = ();
+}
+
 /// What a run works with, besides its service: the readers, the script, and what came of it.
 #[derive(Drop)]
 struct Hands<J: service::Naming, K: input::Naming, I: BufRead + Drop> {
@@ -264,7 +293,7 @@ fn scoped<
                 feed,
                 inbox,
             } = hands;
-            let crew = Crew::in_scope(scope, lent, feed, readers);
+            let crew = ThreadedCrew::in_scope(scope, lent, feed, readers);
             let ran = collect_all(
                 lent.rt,
                 lent.alloc,
@@ -291,7 +320,7 @@ fn collect_all<
     alloc: Global,
     options: Options,
     service: &mut Service<J>,
-    crew: Crew<J, K, I>,
+    crew: ThreadedCrew<J, K, I>,
     inbox: Inbox<K>,
     source: &mut S,
 ) -> Result<Vec<Entry>, LiveError>
@@ -312,7 +341,7 @@ fn collect_all<
     let mut crew = crew;
     let mut inbox = inbox;
     let mut collected = Collected::new(alloc);
-    let done = carry_out_all(
+    let done = carry_out_all::<Scripted<J, K, R, S, I>>(
         &plan,
         service,
         &mut crew,

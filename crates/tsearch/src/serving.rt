@@ -7,19 +7,20 @@ ghost use Rattle.service.specs.Service.{first_service};
 ghost use Rattle.published.specs.declared.opening.TheConstants.{MAX_COMMANDS};
 ghost use Rattle.tsearch.specs.Served.{IsServed, IsBroken, limits_in};
 
-use crate::crew::Crew;
-use crate::error::{LiveError, of_opening};
-use crate::items::{Plan, carry_out_all};
+use crate::crew::ThreadedCrew;
+use crate::error::of_opening;
 use crate::written::Written;
-use index::Lengths;
+use documents::Lengths;
+use event_loop::{LiveError, Plan, World, carry_out_all};
 use input::{Feed, Inbox};
-use service::{Gate, Reader, Service, Source, open};
+use service::{Reader, Service, Source, open};
 use std::alloc::Global;
 use std::io::{BufRead, Write};
-use std::marker::Brand;
+use std::marker::{Brand, PhantomData};
 use std::sync::Wait;
 use std::thread::Threads;
 use std::time::Clock;
+use workers::{Gate, IndexSearcher};
 
 /// How a session is run.
 #[derive(Clone, Copy, Debug, PartialEq, Eq)]
@@ -148,10 +149,40 @@ fn serve_as<
     let (book, front) = history.named::<K>();
     let inbox = Inbox::new(alloc, front.again());
     let feed = Feed::new(alloc, book, front, input, options.lengths.most_bytes());
-    let crew = Crew::start(rt, alloc, feed, readers, gate);
+    let crew = ThreadedCrew::start(rt, alloc, feed, readers, gate);
     let served = serve_all(rt, alloc, options, &mut service, crew, inbox, source, out);
     service.close(rt);
     served
+}
+
+/// The types of a session.
+struct Live<J, K, R, S, I, O> {
+    of: PhantomData<(J, K, R, S, I, O)>,
+}
+
+impl<
+    J: service::Naming,
+    K: input::Naming,
+    R: Threads + Wait + Clock + Sync,
+    S: Source,
+    I: BufRead + Drop,
+    O: Write,
+> World for Live<J, K, R, S, I, O> {
+    type Opening = J;
+
+    type Items = K;
+
+    type Runtime = R;
+
+    type Source = S;
+
+    type Crew = ThreadedCrew<J, K, I>;
+
+    type Searcher = IndexSearcher;
+
+    type Sink = Written;
+
+    type Output = O;
 }
 
 /// Serves a session with a service before its first item.
@@ -167,7 +198,7 @@ fn serve_all<
     alloc: Global,
     options: LiveOptions,
     service: &mut Service<J>,
-    crew: Crew<J, K, I>,
+    crew: ThreadedCrew<J, K, I>,
     inbox: Inbox<K>,
     source: &mut S,
     out: &mut O,
@@ -191,7 +222,7 @@ fn serve_all<
     let mut crew = crew;
     let mut inbox = inbox;
     let mut written = Written::new(alloc, options.stats, options.readers as usize + 1);
-    let done = carry_out_all(
+    let done = carry_out_all::<Live<J, K, R, S, I, O>>(
         &plan,
         service,
         &mut crew,

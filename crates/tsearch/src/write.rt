@@ -6,7 +6,8 @@ ghost use Rattle.transcript.specs.Heads.{head_of_entry};
 ghost use Rattle.transcript.specs.Transcript.{text_of_entry};
 ghost use Rattle.transcript.specs.Written.{AppendsFront};
 
-use crate::error::{LiveError, of_writing};
+use crate::error::of_writing;
+use event_loop::LiveError;
 use std::alloc::Global;
 use std::io::Write;
 use std::thread::Threads;

@@ -7,10 +7,9 @@ ghost use Rattle.transcript.specs.Transcript.{text_of_entry};
 ghost use Rattle.transcript.specs.Written.{AppendsFront};
 ghost use Rattle.tsearch.specs.Private.Sinks.{marks_of, marks_with};
 
-use crate::error::LiveError;
 use crate::marks::Marks;
-use crate::sink::{News, Sink};
 use crate::write::{write_last, write_now};
+use event_loop::{LiveError, News, Sink};
 use std::alloc::Global;
 use std::io::Write;
 use std::thread::Threads;

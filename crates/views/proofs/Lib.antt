@@ -5,3 +5,4 @@ pub mod RowLemmas
 mod NearLemmas
 pub mod PartLemmas
 mod ShownLemmas
+pub mod OneAnswer

@@ -5,7 +5,7 @@ use Rattle.std.proofs.lemmas.Bool.Decides.{nat_tests}
 use Rattle.std.proofs.lemmas.List.{length-take, length-drop}
 use Rattle.lines.specs.Lines.{lines_of}
 use Rattle.memchr.specs.Find.{is_byte, Nowhere, NoneBefore, Passes}
-use Rattle.index.proofs.LineLemmas.{rest-after}
+use Rattle.documents.proofs.LineLemmas.{rest-after}
 use Rattle.views.specs.Found.{found, numbered}
 use Rattle.views.proofs.LineEnds.{lines_of-memchr, lines_of-none}
 

@@ -4,5 +4,9 @@ pub mod Places
 pub mod View
 pub mod Text
 pub mod Shown
+pub mod Rows
+pub mod Scan
+pub mod ShownOf
+pub mod Laws
 pub mod Parts
 pub mod Private

@@ -1,6 +1,6 @@
 -- The hits at places in the bodies of documents.
 use Rattle.std.specs.Prelude.{ℕ, ◌<◌, ◌≤◌, List, [], length, map, get_or, slice_range}
-use Rattle.index.specs.declared.document.SharedDocument.{SharedDocument}
+use Rattle.documents.specs.declared.document.SharedDocument.{SharedDocument}
 use Rattle.views.specs.declared.places.Place.{Place}
 use Rattle.views.specs.Found.{Hit}
 

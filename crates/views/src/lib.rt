@@ -3,6 +3,7 @@
 #![tactic(auto)]
 
 mod answer;
+mod laws;
 mod near;
 mod parts;
 mod places;
@@ -11,6 +12,7 @@ mod shown;
 mod text;
 
 pub use answer::{Answer, Contents};
+pub use laws::{one_answer, one_shown, times_show_nothing};
 pub use near::append_stretches;
 pub use parts::{Passage, PassageText};
 pub use places::{Hit, Lines, Place, Places};

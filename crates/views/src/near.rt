@@ -13,7 +13,7 @@ ghost use Rattle.views.specs.Private.Near.{Leads, begins_at, gap_before, is_clos
 use crate::places::{Hit, Lines};
 use crate::row::append_near;
 use crate::text::{append_all, append_hit};
-use index::SharedDocument;
+use documents::SharedDocument;
 use memchr::memchr;
 use std::alloc::AllocError;
 use watch::{Pace, Unanswered, Watch};

@@ -5,7 +5,7 @@ ghost use Rattle.std.specs.Iterator.{YieldsFirstBy, item_count};
 ghost use Rattle.views.specs.Hits.{hit_of};
 ghost use Rattle.views.specs.Places.{hit_at, IsPlaced};
 
-use index::{Name, SharedDocument};
+use documents::{Name, SharedDocument};
 use std::alloc::Global;
 use std::fmt;
 use std::fmt::{Debug, Formatter};

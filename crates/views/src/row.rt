@@ -7,7 +7,7 @@ ghost use Rattle.views.specs.View.{at_column, near, name, count};
 
 use crate::places::Hit;
 use crate::text::{after_name, append_all};
-use index::SharedDocument;
+use documents::SharedDocument;
 use itoa::Buffer;
 use spans::Span;
 use std::alloc::AllocError;

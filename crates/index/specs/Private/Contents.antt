@@ -8,7 +8,7 @@ use Rattle.std.specs.Cmp.Lexicographic.{slice_cmp}
 use Rattle.std.specs.List.Sorted.{IsStrictlyIncreasing}
 use Rattle.std.specs.BTreeMap.{BTreeMap, get}
 use Rattle.std.specs.BTreeSet.{BTreeSet, contains, btree_set_len, IsOrdered}
-use Rattle.index.specs.Text.{IsBody}
+use Rattle.documents.specs.Text.{IsBody}
 use Rattle.query.specs.Query.{Formula}
 use Rattle.posting.specs.ListValue.{has}
 use Rattle.index.specs.Private.Numbered.{Document, document, document_at, number_of, meets}

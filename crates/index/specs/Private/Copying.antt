@@ -8,8 +8,8 @@ use Rattle.prefixes.specs.Under.{begins_with}
 use Rattle.index.specs.declared.copying.Copied.{Copied}
 use Rattle.index.specs.declared.copying.Leaves.{Leaves}
 use Rattle.index.specs.declared.copying.Leaves.TheVariants.{Old, New}
-use Rattle.index.specs.Text.{IsName}
-use Rattle.index.specs.Documents.{renamed}
+use Rattle.documents.specs.Text.{IsName}
+use Rattle.documents.specs.Documents.{renamed}
 use Rattle.index.specs.Private.Numbered.{Document}
 use Rattle.index.specs.Private.Contents.{Groups, AreContents, AreGroupsOf, body_at, has_name, is_number}
 

@@ -8,8 +8,8 @@ use Rattle.std.specs.List.Sorted.{IsStrictlySortedBy}
 use Rattle.query.specs.Trigrams.{trigrams_of_body}
 use Rattle.query.specs.Query.{Formula, is_met}
 use Rattle.posting.specs.ListValue.{has}
-use Rattle.index.specs.declared.document.SharedDocument.{SharedDocument}
-use Rattle.index.specs.Text.{IsName, IsBody}
+use Rattle.documents.specs.declared.document.SharedDocument.{SharedDocument}
+use Rattle.documents.specs.Text.{IsName, IsBody}
 use Rattle.prefixes.specs.Under.{begins_with, is_under_one}
 
 -- A document, or a content with one of its names: its number is the place, among all commands and counted from 1, of the Put that made

@@ -1,8 +1,8 @@
 -- The state of an index without the numbers by which it finds its documents.
 use Rattle.std.specs.Prelude.{ℕ, List, map}
 use Rattle.std.specs.FinMap.{from_entries}
-use Rattle.index.specs.Documents.{Documents}
-use Rattle.index.specs.State.{State, state}
+use Rattle.documents.specs.Documents.{Documents}
+use Rattle.documents.specs.State.{State, state}
 use Rattle.index.specs.Private.Numbered.{Document as NumberedDocument, State as NumberedState}
 
 -- the document without its number

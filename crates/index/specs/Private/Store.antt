@@ -9,8 +9,8 @@ use Rattle.posting.specs.ListValue.{has, HasRoom}
 use Rattle.posting.specs.Postings.{set_of, IsPrepared, AllDiffer}
 use Rattle.index.specs.declared.sets.Change.{Change}
 use Rattle.index.specs.declared.store.Store.{Store}
-use Rattle.index.specs.Text.{IsName}
-use Rattle.index.specs.State.{body_bytes}
+use Rattle.documents.specs.Text.{IsName}
+use Rattle.documents.specs.State.{body_bytes}
 use Rattle.index.specs.Private.Numbered.{Document, document_at, body_bytes as content_bytes}
 use Rattle.index.specs.Private.Contents.{Groups, AreContents, AreGroupsOf, has_name, is_number, named}
 use Rattle.index.specs.Private.Plain.{plain_documents}

@@ -1,7 +1,7 @@
 -- The history of an opening is kept in batches, one for each publish that adds commands.
 use Rattle.std.specs.Prelude.{List}
 use Rattle.std.specs.List.{flat_map}
-use Rattle.index.specs.declared.command.Command.{Command}
+use Rattle.documents.specs.declared.command.Command.{Command}
 
 -- the commands of some batches, one after the other
 abbrev pub joined : List (List Command) → List Command

@@ -1,6 +1,6 @@
 -- Both copies of a shelf, and the operations that one of them lacks.
 use Rattle.std.specs.Prelude.{◌≡◌, List, [], ◌++◌, length, drop, fold}
-use Rattle.index.specs.declared.command.Command.{Command}
+use Rattle.documents.specs.declared.command.Command.{Command}
 use Rattle.published.specs.History.{Known}
 use Rattle.published.specs.Private.Shelf.{operated, commands_in}
 use Rattle.published.specs.declared.shelf.Shelf.{Shelf}

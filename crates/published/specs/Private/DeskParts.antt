@@ -1,6 +1,6 @@
 -- How the parts of a desk make up its state.
 use Rattle.std.specs.Prelude.{◌≡◌, ℕ, List, length, take, drop}
-use Rattle.index.specs.declared.command.Command.{Command}
+use Rattle.documents.specs.declared.command.Command.{Command}
 use Rattle.published.specs.History.{Known}
 use Rattle.published.specs.Private.Names.{has_name}
 use Rattle.published.specs.Private.Copies.{CopiesState}

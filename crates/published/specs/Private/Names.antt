@@ -5,7 +5,7 @@ use Rattle.std.specs.Ordering.{nat_cmp}
 use Rattle.std.specs.Cmp.Lexicographic.{slice_cmp}
 use Rattle.std.specs.BTreeSet.{contains}
 use Rattle.prefixes.specs.Under.{begins_with}
-use Rattle.index.specs.Documents.{renamed}
+use Rattle.documents.specs.Documents.{renamed}
 use Rattle.published.specs.declared.names.Names.{Names}
 
 abbrev pub has_name : Names → List ℕ → Bool

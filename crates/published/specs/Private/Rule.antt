@@ -3,7 +3,7 @@ use Rattle.std.specs.Prelude.{◌≡◌, ℕ, List, Option, Some, IfSome, IsSome
 use mathlib.Core.Option.{some}
 use lib.ListN.{get_elem?}
 use Rattle.logbook.specs.Pages.{Book}
-use Rattle.index.specs.State.{state_of}
+use Rattle.documents.specs.State.{state_of}
 use Rattle.published.specs.History.{Known}
 use Rattle.published.specs.declared.shelf.Shelf.{Shelf}
 

@@ -1,8 +1,8 @@
 -- What operations do to a shelf.
 use Rattle.std.specs.Prelude.{List, [], ◌∷◌}
-use Rattle.index.specs.declared.command.Command.{Command}
-use Rattle.index.specs.declared.command.Command.TheVariants.{Put, Remove, RemoveUnder, CopyUnder}
-use Rattle.index.specs.State.{applied}
+use Rattle.documents.specs.declared.command.Command.{Command}
+use Rattle.documents.specs.declared.command.Command.TheVariants.{Put, Remove, RemoveUnder, CopyUnder}
+use Rattle.documents.specs.State.{applied}
 use Rattle.published.specs.declared.shelf.Update.{Update}
 use Rattle.published.specs.declared.shelf.Update.TheVariants as update
 use Rattle.published.specs.declared.shelf.Operation.{Operation}

@@ -1,6 +1,6 @@
 -- The lines of the documents that are taken.
 use Rattle.std.specs.Prelude.{List}
-use Rattle.index.specs.declared.document.SharedDocument.{SharedDocument}
+use Rattle.documents.specs.declared.document.SharedDocument.{SharedDocument}
 use Rattle.views.specs.Found.{Hit}
 use Rattle.views.specs.Found.{lines_of_document}
 

@@ -2,8 +2,8 @@
 use Rattle.std.specs.Prelude.{◌≡◌, ℕ, zero, suc, ◌+◌, ◌-◌, min, Bool, true, false, List, [], ◌∷◌, ◌++◌, length, flat_map, drop, Option, Some, None, option_map, if◌then◌else◌}
 use Rattle.std.specs.List.{AllByRecursion}
 use Rattle.std.specs.Str.{bytes_eq}
-use Rattle.index.specs.Documents.{Document}
-use Rattle.index.specs.declared.document.SharedDocument.{SharedDocument}
+use Rattle.documents.specs.Documents.{Document}
+use Rattle.documents.specs.declared.document.SharedDocument.{SharedDocument}
 use Rattle.request.specs.declared.options.View.{View}
 use Rattle.request.specs.declared.options.View.TheVariants as view
 use Rattle.search.specs.declared.gathered.Gathered.{Gathered}
@@ -19,7 +19,7 @@ use Rattle.search.specs.Selects.{Selects, IsAsked}
 use Rattle.views.specs.Shown.{Shown}
 use Rattle.prepare.specs.Tests.{test_of}
 use Rattle.views.specs.Text.{text_of_rows}
-use Rattle.search.specs.Rows.{AreRows, at_most, body_of, hits_in, is_over, limited, names_of, total}
+use Rattle.views.specs.Rows.{AreRows, at_most, body_of, hits_in, is_over, limited, names_of, total}
 use Rattle.views.specs.View.{Row, gap, shows_names, stretches}
 
 -- what is left of a limit when so many are shown

@@ -1,6 +1,6 @@
 -- The contents that were matched before the documents.
 use Rattle.std.specs.Prelude.{◌≡◌, ℕ, ◌+◌, ◌-◌, ◌⊎◌, true, min, List, [], ◌++◌, length, map, All, Option, Some, None}
-use Rattle.index.specs.declared.document.SharedDocument.{SharedDocument}
+use Rattle.documents.specs.declared.document.SharedDocument.{SharedDocument}
 use Rattle.prepare.specs.Pattern.{Test}
 use Rattle.prepare.specs.Tests.{test_of}
 use Rattle.views.specs.Found.{Hit, lines_of_document}

@@ -1,12 +1,12 @@
 -- The candidates that are taken first.
 use Rattle.std.specs.Prelude.{◌≡◌, ℕ, ◌<◌, List, [], ◌++◌, length}
 use Rattle.query.specs.Query.{Formula}
-use Rattle.index.specs.Shared.{AreCandidates}
-use Rattle.index.specs.declared.document.Candidates.{Candidates}
+use Rattle.documents.specs.Shared.{AreCandidates}
+use Rattle.documents.specs.declared.document.Candidates.{Candidates}
 use Rattle.prepare.specs.Pattern.{Pattern}
 use Rattle.search.specs.Front.{AreFronts}
-use Rattle.index.specs.State.{State}
-use Rattle.index.specs.declared.document.SharedDocument.{SharedDocument}
+use Rattle.documents.specs.State.{State}
+use Rattle.documents.specs.declared.document.SharedDocument.{SharedDocument}
 use Rattle.prepare.specs.Request.{Request}
 use Rattle.search.specs.Taken.{IsTakenAmong}
 use Rattle.search.specs.declared.taken.Taken.{Taken}

@@ -5,7 +5,7 @@ use Rattle.request.specs.declared.options.View.TheVariants as view
 use Rattle.prepare.specs.Request.{Request}
 use Rattle.views.specs.Found.{Hit}
 use Rattle.views.specs.View.{Row, hit, name, count, stretches}
-use Rattle.search.specs.Rows.{IsColumnRow, IsSpansRow, RowsOf}
+use Rattle.views.specs.Rows.{IsColumnRow, IsSpansRow, RowsOf}
 
 -- The row has the spans of the line's matches, or the column of the first one.
 abbrev pub IsMatchRow : Bool → Request → Hit → Row → Type 0

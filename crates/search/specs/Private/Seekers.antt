@@ -5,7 +5,7 @@ use Rattle.engine.specs.Patterns.{IsFinderOf}
 use Rattle.request.specs.declared.options.View.{View}
 use Rattle.request.specs.declared.options.View.TheVariants as view
 use Rattle.prepare.specs.Prepared.{request_of}
-use Rattle.search.specs.Rows.{shown_tree}
+use Rattle.views.specs.Rows.{shown_tree}
 use Rattle.search.specs.declared.gathered.Wanted.{Wanted}
 use Rattle.search.specs.declared.seeker.Seeker.{Seeker}
 use Rattle.search.specs.declared.seeker.Tried.{Tried}

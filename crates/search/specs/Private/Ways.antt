@@ -4,7 +4,7 @@ use Rattle.ere.specs.Tree.{Tree}
 use Rattle.engine.specs.Patterns.{IsLineFinderOf}
 use Rattle.matcher.specs.Steps.{IsQuick}
 use Rattle.simulation.specs.Simulations.{IsSimulationOf}
-use Rattle.index.specs.declared.document.SharedDocument.{SharedDocument}
+use Rattle.documents.specs.declared.document.SharedDocument.{SharedDocument}
 use Rattle.views.specs.declared.shown.FoundBy.{FoundBy}
 use Rattle.views.specs.declared.shown.FoundBy.TheVariants as by
 use Rattle.prepare.specs.Pattern.{Pattern}

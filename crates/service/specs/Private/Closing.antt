@@ -1,7 +1,7 @@
 -- Open searches that get their entries.
 use Rattle.std.specs.Prelude.{◌≡◌, ◌≢◌, ℕ, ◌+◌, ◌≤◌, List, [], ◌∷◌, ◌++◌, length, All, Bool, Some, slice_get}
 use mathlib.Core.List.{IsPrefix}
-use Rattle.index.specs.declared.lengths.Lengths.{Lengths}
+use Rattle.documents.specs.declared.lengths.Lengths.{Lengths}
 use Rattle.prepare.specs.Request.{Request}
 use Rattle.views.specs.Shown.{Shown}
 use Rattle.script.specs.Items.{Item}

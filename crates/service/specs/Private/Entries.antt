@@ -5,12 +5,12 @@ use Rattle.std.specs.declared.alloc.Global.{Global}
 use Rattle.ere.specs.declared.error.EreError.{EreError}
 use Rattle.ere.specs.declared.error.EreErrorKind.{EreErrorKind}
 use Rattle.ere.specs.declared.error.EreErrorKind.TheVariants as kind
-use Rattle.index.specs.declared.command.Command.{Command}
-use Rattle.index.specs.declared.error.NameError.{NameError}
-use Rattle.index.specs.declared.lengths.Lengths.{Lengths}
-use Rattle.index.specs.declared.error.NameError.TheVariants as name
-use Rattle.index.specs.State.{State, state_of}
-use Rattle.index.specs.Text.{IsBodyOf}
+use Rattle.documents.specs.declared.command.Command.{Command}
+use Rattle.documents.specs.declared.error.NameError.{NameError}
+use Rattle.documents.specs.declared.lengths.Lengths.{Lengths}
+use Rattle.documents.specs.declared.error.NameError.TheVariants as name
+use Rattle.documents.specs.State.{State, state_of}
+use Rattle.documents.specs.Text.{IsBodyOf}
 use Rattle.request.specs.Faults.{reason_of}
 use Rattle.request.specs.declared.fault.FindFault.{FindFault}
 use Rattle.request.specs.declared.fault.FindFault.TheVariants as find_fault

@@ -10,8 +10,8 @@ use Rattle.transcript.specs.declared.entry.Entry.TheVariants.{Published}
 use Rattle.steps.specs.Rows.{accepted_by, command_of, version_in, failures_in, searches_of, is_sync}
 use Rattle.steps.specs.StepRows.{searches_in}
 use Rattle.steps.specs.LegalRows.{IsCommandEntry}
-use Rattle.index.specs.State.{state_of}
-use Rattle.index.specs.declared.lengths.Lengths.{Lengths}
+use Rattle.documents.specs.State.{state_of}
+use Rattle.documents.specs.declared.lengths.Lengths.{Lengths}
 use Rattle.service.specs.Service.{IsCounted}
 
 -- What a reading can learn after the entry: after a publish, everything accepted; otherwise, the same as before.

@@ -1,5 +1,4 @@
 -- Searches as they are asked for.
-use Rattle.prepare.specs.declared.pattern.Prepared.{Prepared}
 use Rattle.script.specs.Items.{Item, search, search_in, find}
 use Rattle.service.specs.declared.question.Texts.{Texts}
 use Rattle.service.specs.declared.question.Texts.TheVariants as texts
@@ -9,11 +8,3 @@ abbrev pub search_of : Texts → Item
 search_of (texts.Search case pattern) = search case pattern.items
 search_of (texts.SearchIn case name_pattern pattern) = search_in case name_pattern.items pattern.items
 search_of (texts.Find words) = find words.items
-
--- A search, and what it asks for, read.
-pub record Asked : Type 0 where
-  pub item : Item
-  pub prepared : Prepared
-
-abbrev pub asked : Item → Prepared → Asked
-asked item prepared = record { item = item; prepared = prepared }

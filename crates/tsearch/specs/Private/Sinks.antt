@@ -1,24 +1,15 @@
 -- What the sinks of a run and of a session do with news.
-use Rattle.std.specs.Prelude.{◌≡◌, ◌||◌, ℕ, ◌<◌, Bool, if◌then◌else◌, List, Option, Some, codes, take}
+use Rattle.std.specs.Prelude.{◌≡◌, ◌||◌, ℕ, Bool, if◌then◌else◌, List, Option, Some, codes, take}
 use Rattle.std.specs.List.{list_any}
 use Rattle.std.specs.Io.KnownBytes.{Appends}
-use Rattle.service.specs.Collected.{CollectedState, number_in, pushed, filled}
 use Rattle.transcript.specs.declared.entry.Entry.{Entry}
-use Rattle.transcript.specs.declared.entry.Entry.TheVariants.{SearchRefused}
-use Rattle.transcript.specs.declared.entry.SearchReason.TheVariants.{OutOfMemory}
 use Rattle.transcript.specs.Transcript.{is_refusal, has_hit, text_of_entry}
 use Rattle.transcript.specs.Written.{AppendsFront}
 use Rattle.tsearch.specs.declared.marks.Marks.{Marks}
 use Rattle.tsearch.specs.declared.run.Options.{Options}
-use Rattle.tsearch.specs.declared.sink.News.{News}
-use Rattle.tsearch.specs.declared.sink.News.TheVariants as news
+use Rattle.event_loop.specs.declared.sink.News.{News}
+use Rattle.event_loop.specs.declared.sink.News.TheVariants as news
 use Rattle.tsearch.specs.Legal.{IsLegal}
-
--- Collected entries take the news.
-abbrev pub Collects : CollectedState → News → CollectedState → Type 0
-Collects old (news.Entry entry) new = new ≡ pushed entry old
-Collects old (news.Open search) new = new ≡ pushed (SearchRefused search OutOfMemory) old
-Collects old (news.Answer entry) new = 0 < number_in entry → new ≡ filled entry old
 
 -- after one more entry
 abbrev pub marks_with : Marks → Entry → Marks

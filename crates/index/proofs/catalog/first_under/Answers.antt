@@ -1,6 +1,6 @@
 use Rattle.std.proofs.Common.{subst}
-use Rattle.index.specs.declared.error.NameError.{NameError}
-use Rattle.index.specs.Text.{IsNameFault}
+use Rattle.documents.specs.declared.error.NameError.{NameError}
+use Rattle.documents.specs.Text.{IsNameFault}
 use Rattle.index.proofs.UnderLemmas.{first-empty, none_too_long, none_bad}
 use Rattle.index.proofs.catalog.first_under.Goals as goal
 

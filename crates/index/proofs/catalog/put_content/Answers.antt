@@ -1,5 +1,5 @@
 use Rattle.std.proofs.Common.{◌+◌, ◌<◌, ◌^◌, ◌++◌, ◌∷◌, [], length, ◌∙◌, ap, sym, subst}
-use Rattle.index.specs.Text.{IsName}
+use Rattle.documents.specs.Text.{IsName}
 use Rattle.index.specs.Private.Numbered.{document, body_bytes}
 use Rattle.index.specs.Private.Store.{stored}
 use Rattle.index.proofs.StoredLemmas.{lists_nothing}

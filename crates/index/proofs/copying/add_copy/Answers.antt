@@ -4,11 +4,11 @@ use Rattle.std.proofs.lemmas.List.Elements.{All-push}
 use Rattle.std.specs.Ordering.{nat_cmp}
 use Rattle.std.specs.Cmp.Lexicographic.{slice_cmp}
 use Rattle.std.specs.BTreeMap.{get}
-use Rattle.index.specs.Documents.{renamed}
+use Rattle.documents.specs.Documents.{renamed}
 use Rattle.index.specs.Private.Contents.{is_number}
 use Rattle.index.specs.Private.Copying.{copied, is_new, IsCopy}
 use Rattle.index.proofs.NamedLemmas.{number_is}
-use Rattle.index.proofs.RenamedLemmas.{begins_renamed, renamed_back}
+use Rattle.documents.proofs.RenamedLemmas.{begins_renamed, renamed_back}
 use Rattle.index.proofs.copying.add_copy.Goals as goal
 
 not_true : (t : Bool) → not t ≡ true → t ≡ false

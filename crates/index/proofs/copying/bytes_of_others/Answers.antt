@@ -1,7 +1,7 @@
 use Rattle.std.proofs.Common.{◌≡◌, Some, None, sym, ◌∙◌, ap, arith, length}
 use Rattle.std.specs.Prelude.{option_map}
 use Rattle.std.specs.FinMap.{get}
-use Rattle.index.specs.State.{body_bytes}
+use Rattle.documents.specs.State.{body_bytes}
 use Rattle.index.specs.Private.Contents.{body_at, named}
 use Rattle.index.specs.Private.Plain.{plain_documents}
 use Rattle.index.specs.Private.Slots.{documents_in}

@@ -1,5 +1,5 @@
 use Rattle.std.proofs.Common.{◌≡◌, take}
-use Rattle.index.specs.State.{body_bytes}
+use Rattle.documents.specs.State.{body_bytes}
 use Rattle.index.specs.Private.Contents.{named}
 use Rattle.index.specs.Private.Copying.{IsEntered}
 use Rattle.index.specs.Private.Plain.{plain_documents}

@@ -1,5 +1,5 @@
 use Rattle.std.proofs.Common.{refl, sym, ◌∙◌, ap, map}
-use Rattle.index.specs.State.{body_bytes}
+use Rattle.documents.specs.State.{body_bytes}
 use Rattle.index.specs.Private.Plain.{plain_documents}
 use Rattle.index.specs.Private.Store.{stored}
 use Rattle.index.specs.Private.Contents.{body_at}

@@ -1,9 +1,9 @@
 -- The state after two commands is that of the list of the two.
 use Rattle.std.proofs.Common.{[], ◌∷◌, sym, ◌∙◌, ap, subst}
-use Rattle.index.specs.declared.command.Command.TheVariants.{Put}
-use Rattle.index.specs.State.{applied, state_of}
-use Rattle.index.proofs.StateLemmas.{state_of-push}
-use Rattle.search.specs.Shown.{IsShownOf}
+use Rattle.documents.specs.declared.command.Command.TheVariants.{Put}
+use Rattle.documents.specs.State.{applied, state_of}
+use Rattle.documents.proofs.StateLemmas.{state_of-push}
+use Rattle.views.specs.ShownOf.{IsShownOf}
 use Rattle.prepare.specs.Prepared.{pattern_of, request_of}
 use Rattle.proved_tests.proofs.searches.search_left.Goals as goal
 

@@ -1,9 +1,9 @@
 -- The state after two commands is that of the list of the two.
 use Rattle.std.proofs.Common.{[], ◌∷◌, sym, ◌∙◌, ap, subst}
-use Rattle.index.specs.declared.command.Command.TheVariants.{Put}
-use Rattle.index.specs.State.{applied}
-use Rattle.index.proofs.StateLemmas.{state_of-push}
-use Rattle.search.specs.Scan.{IsAnswerOf}
+use Rattle.documents.specs.declared.command.Command.TheVariants.{Put}
+use Rattle.documents.specs.State.{applied}
+use Rattle.documents.proofs.StateLemmas.{state_of-push}
+use Rattle.views.specs.Scan.{IsAnswerOf}
 use Rattle.prepare.specs.Prepared.{pattern_of}
 use Rattle.proved_tests.proofs.searches.search_two.Goals as goal
 

@@ -1,5 +1,5 @@
 use Rattle.std.proofs.Common.{rules, sym, ap, ◌∙◌}
-use Rattle.index.specs.State.{state_of}
+use Rattle.documents.specs.State.{state_of}
 use Rattle.published.proofs.Turns.{turns_at}
 use Rattle.published.proofs.opening.shelves.Goals as goal
 

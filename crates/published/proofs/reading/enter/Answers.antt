@@ -1,5 +1,5 @@
 use Rattle.std.proofs.Common.{sym, ◌∙◌, ap}
-use Rattle.index.specs.State.{state_of}
+use Rattle.documents.specs.State.{state_of}
 use Rattle.published.specs.History.{Known}
 use Rattle.published.specs.declared.shelf.Shelf.{Shelf}
 use Rattle.published.proofs.Turns.{turns}

@@ -1,8 +1,8 @@
 use Rattle.std.proofs.Common.{◌++◌, List, drop, take, ap, sym, ◌∙◌, subst, append_assoc, arith}
 use Rattle.std.proofs.lemmas.List.{append-nil, take-append-drop}
-use Rattle.index.specs.Shared.{documents_shared, NumbersTellBodies}
+use Rattle.documents.specs.Shared.{documents_shared, NumbersTellBodies}
 use Rattle.search.proofs.KnownLemmas.{told-take}
-use Rattle.index.specs.declared.document.SharedDocument.{SharedDocument}
+use Rattle.documents.specs.declared.document.SharedDocument.{SharedDocument}
 use Rattle.prepare.specs.Prepared.{request_of}
 use Rattle.search.specs.Front.{AreFronted}
 use Rattle.search.specs.Taken.{IsTakenAmong}
@@ -12,7 +12,7 @@ pub returns-then-len-most-clause-first : goal.returns-then-len-most-clause-first
 returns-then-len-most-clause-first g c =
     let taken = c.in_ok-taken.taken in
     let up_to = c.in_ok-taken.ensures.taken in
-    subst (λ ds. IsTakenAmong ds c.args.index.now (request_of c.args.prepared.now) taken)
+    subst (λ ds. IsTakenAmong ds (g.C.Corpus.state c.args.corpus.now) (request_of c.args.prepared.now) taken)
     (ap (λ ds. taken.candidates.items ++ ds) (up_to.all_or_most (omega (arith, c.len.ensures, c.if-len-most.true, taken.candidates.ok)))
     ∙ append-nil taken.candidates.items) up_to.is
 
@@ -35,7 +35,7 @@ returns-clause-first g c =
             count = up_to.is.count;
             is_state = up_to.is.is_state;
             candidates =
-                subst (λ (ds : List SharedDocument). AreFronted c.args.index.now (request_of c.args.prepared.now).pattern (documents_shared ds)) (sym same)
+                subst (λ (ds : List SharedDocument). AreFronted (g.C.Corpus.state c.args.corpus.now) (request_of c.args.prepared.now).pattern (documents_shared ds)) (sym same)
                 up_to.is.candidates;
             same = subst NumbersTellBodies (sym c.truncate.ensures.items) (told-take few items up_to.is.same);
           };

@@ -2,7 +2,7 @@ use Rattle.std.proofs.Common.{drop, length, sym, ◌∙◌, ap, subst}
 use Rattle.search.specs.Private.Added.{AddsUpTo}
 use Rattle.search.specs.Private.Documents.{lines_of_taken}
 use Rattle.search.specs.Private.Gathered.{asked, beyond, kept_of}
-use Rattle.search.specs.Rows.{limited}
+use Rattle.views.specs.Rows.{limited}
 use Rattle.search.specs.Selects.{IsAsked}
 use Rattle.prepare.specs.Tests.{test_of}
 use Rattle.search.proofs.FitLemmas.{rising, feedless}

@@ -1,12 +1,12 @@
 use Rattle.std.proofs.Common.{List, sym, subst, refl}
-use Rattle.index.specs.declared.command.Command.{Command}
-use Rattle.index.specs.Documents.{IsPutLast, document, documents_of}
-use Rattle.index.specs.State.{state_of}
-use Rattle.index.proofs.LawLemmas.{found-last, last-found}
-use Rattle.index.proofs.ListedLemmas.{found-listed, listed-found}
+use Rattle.documents.specs.declared.command.Command.{Command}
+use Rattle.documents.specs.Documents.{IsPutLast, document, documents_of}
+use Rattle.documents.specs.State.{state_of}
+use Rattle.documents.proofs.LawLemmas.{found-last, last-found}
+use Rattle.documents.proofs.ListedLemmas.{found-listed, listed-found}
 use Rattle.prepare.specs.Pattern.{Pattern}
 use Rattle.views.specs.Found.{Hit}
-use Rattle.search.specs.Scan.{IsHit}
+use Rattle.views.specs.Scan.{IsHit}
 use Rattle.search.specs.Commands.{IsHitOfPut}
 use Rattle.search.proofs.laws.answers_follow_commands.Goals as goal
 

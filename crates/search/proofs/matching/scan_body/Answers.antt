@@ -2,7 +2,7 @@ use Rattle.std.proofs.Common.{◌≡◌, ◌+◌, ◌-◌, refl, length, take, d
 use Rattle.std.proofs.lemmas.List.{length-take, length-drop}
 use Rattle.prepare.specs.Tests.{test_of}
 use Rattle.lines.specs.Lines.{lines_of}
-use Rattle.index.specs.Text.{greatest_body}
+use Rattle.documents.specs.Text.{greatest_body}
 use Rattle.views.specs.Found.{numbered, lines_of_document}
 use Rattle.search.proofs.PieceLemmas.{rest_of, room_for_lines, room_after, numbered-pieces}
 use Rattle.search.proofs.PlaceLemmas.{first_is_there, rest_is_there, go_on}

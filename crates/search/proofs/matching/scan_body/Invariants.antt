@@ -2,7 +2,7 @@ use Rattle.std.proofs.Common.{◌+◌, ◌≤◌, ℕ, List, length}
 use Rattle.ere.specs.Tree.{form}
 use Rattle.prepare.specs.Tests.{test_of}
 use Rattle.lines.specs.Lines.{lines_of}
-use Rattle.index.specs.Text.{greatest_body}
+use Rattle.documents.specs.Text.{greatest_body}
 use Rattle.search.specs.Private.Pieces.{IsPiece}
 use Rattle.views.specs.Found.{numbered, lines_of_document}
 use Rattle.search.specs.Private.Added.{HasTextAt}

@@ -4,7 +4,7 @@ use Rattle.views.specs.Hits.{hit_of}
 use Rattle.prepare.specs.Prepared.{request_of}
 use Rattle.views.specs.Text.{text_of_row}
 use Rattle.views.specs.View.{at_column, hit}
-use Rattle.search.specs.Rows.{shown_tree}
+use Rattle.views.specs.Rows.{shown_tree}
 use Rattle.search.proofs.RowLemmas.{has_column, no_column, words_are}
 use Rattle.search.proofs.SeekerLemmas.{none_of, some_of}
 use Rattle.search.proofs.rows.append_column.Goals as goal

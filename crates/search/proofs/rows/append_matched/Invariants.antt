@@ -1,6 +1,6 @@
 use Rattle.std.specs.List.{All}
 use Rattle.prepare.specs.Prepared.{request_of}
-use Rattle.search.specs.Rows.{shown_tree}
+use Rattle.views.specs.Rows.{shown_tree}
 use Rattle.search.specs.Private.Rows.{IsMatchRow}
 use Rattle.search.specs.Private.Seekers.{IsOneLine, Seeks}
 use Rattle.search.proofs.RowLemmas.{RowsOfSoFar}

@@ -2,7 +2,7 @@ use Rattle.std.proofs.Common.{refl, ap}
 use Rattle.std.proofs.lemmas.Result.{IfOk-weaker}
 use Rattle.prepare.specs.Prepared.{request_of}
 use Rattle.search.proofs.RowLemmas.{as_lines, as_context, as_columns, as_spans, as_name, as_count, as_header}
-use Rattle.search.specs.Rows.{shown_tree}
+use Rattle.views.specs.Rows.{shown_tree}
 use Rattle.search.specs.Private.Seekers.{shows_matches}
 use Rattle.search.proofs.SeekerLemmas.{can_show, has_seeker, seeks_shown}
 use Rattle.search.proofs.rows.append_rows.Goals as goal

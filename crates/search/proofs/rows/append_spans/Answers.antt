@@ -1,7 +1,7 @@
 use Rattle.std.proofs.Common.{◌≡◌, ◌++◌, List, subst}
 use Rattle.prepare.specs.Prepared.{request_of}
 use Rattle.views.specs.Text.{text_of_spans}
-use Rattle.search.specs.Rows.{shown_tree}
+use Rattle.views.specs.Rows.{shown_tree}
 use Rattle.spans.specs.FirstSpan.{AreSpans, HasNoSpan, IsFirstSpan}
 use Rattle.spans.specs.declared.span.Span.{Span}
 use Rattle.search.proofs.RowLemmas.{spans_begin, spans_more, spans_end, words_are}

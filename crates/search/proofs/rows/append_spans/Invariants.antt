@@ -1,6 +1,6 @@
 use Rattle.std.proofs.Common.{◌-◌, length}
 use Rattle.prepare.specs.Prepared.{request_of}
-use Rattle.search.specs.Rows.{shown_tree}
+use Rattle.views.specs.Rows.{shown_tree}
 use Rattle.search.specs.Private.Seekers.{Seeks}
 use Rattle.search.proofs.RowLemmas.{SpansSoFar}
 use Rattle.search.proofs.rows.append_spans.Given as goal

@@ -1,7 +1,7 @@
 use Rattle.std.proofs.Common.{map, ◌∙◌, ap, refl, arith}
 use Rattle.std.proofs.lemmas.List.{length-map}
 use Rattle.query.specs.Query.{formula_of}
-use Rattle.index.specs.Shared.{document_of}
+use Rattle.documents.specs.Shared.{document_of}
 use Rattle.prepare.specs.Prepared.{pattern_of}
 use Rattle.search.proofs.CandidateLemmas.{counted, candidates_under}
 use Rattle.search.proofs.FirstLemmas.{shared_of, shared-others}
@@ -9,7 +9,7 @@ use Rattle.search.proofs.taken.take_up_to.Goals as goal
 
 pub returns-clause-taken : goal.returns-clause-taken
 returns-clause-taken g c =
-    let state = c.args.index.now in
+    let state = g.C.Corpus.state c.args.corpus.now in
     let prepared = c.args.prepared.now in
     let pattern = pattern_of prepared in
     let formula = formula_of prepared.query in

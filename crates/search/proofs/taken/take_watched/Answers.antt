@@ -8,6 +8,6 @@ pub returns-clause-taken : goal.returns-clause-taken
 returns-clause-taken g c =
     let taken = c.in_ok-taken.taken in
     let up_to = c.in_ok-taken.ensures.taken in
-    subst (λ ds. IsTakenAmong ds c.args.index.now (request_of c.args.prepared.now) taken)
+    subst (λ ds. IsTakenAmong ds (g.C.Corpus.state c.args.corpus.now) (request_of c.args.prepared.now) taken)
     (ap (λ ds. taken.candidates.items ++ ds) (up_to.all_or_most (omega (arith, taken.candidates.ok, taken.candidates.small))) ∙ append-nil taken.candidates.items)
     up_to.is

@@ -1,5 +1,5 @@
 use Rattle.std.proofs.Common.{ap}
-use Rattle.index.specs.State.{state_of}
+use Rattle.documents.specs.State.{state_of}
 use Rattle.steps.specs.LegalRows.{named}
 use Rattle.transcript.specs.declared.entry.Entry.TheVariants.{Refused}
 use Rattle.service.proofs.ItemLemmas.{named_fault, named_copied}

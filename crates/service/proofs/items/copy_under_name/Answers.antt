@@ -1,4 +1,4 @@
-use Rattle.index.specs.declared.command.Command.TheVariants.{CopyUnder}
+use Rattle.documents.specs.declared.command.Command.TheVariants.{CopyUnder}
 use Rattle.service.proofs.ItemLemmas.{refused_copy, accepted_copy}
 use Rattle.service.proofs.items.copy_under_name.Goals as goal
 

@@ -1,5 +1,5 @@
 use Rattle.std.proofs.Common.{None, Some, refl, ap, ◌∙◌}
-use Rattle.index.specs.State.{state_of}
+use Rattle.documents.specs.State.{state_of}
 use Rattle.transcript.specs.declared.entry.Entry.TheVariants.{Refused}
 use Rattle.steps.specs.Rows.{failures_in}
 use Rattle.service.proofs.ItemLemmas.{named_fault, named_loaded, no_failure_in_name, no_failure_in_body, counted_none, counted_same}

@@ -1,4 +1,4 @@
-use Rattle.index.specs.declared.command.Command.TheVariants.{Remove}
+use Rattle.documents.specs.declared.command.Command.TheVariants.{Remove}
 use Rattle.service.proofs.ItemLemmas.{refused_remove, accepted_remove}
 use Rattle.service.proofs.items.remove_named.Goals as goal
 

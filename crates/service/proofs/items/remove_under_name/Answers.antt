@@ -1,4 +1,4 @@
-use Rattle.index.specs.declared.command.Command.TheVariants.{RemoveUnder}
+use Rattle.documents.specs.declared.command.Command.TheVariants.{RemoveUnder}
 use Rattle.service.proofs.ItemLemmas.{refused_remove, accepted_remove}
 use Rattle.service.proofs.items.remove_under_name.Goals as goal
 

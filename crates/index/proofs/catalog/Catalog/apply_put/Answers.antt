@@ -1,7 +1,7 @@
 use Rattle.std.proofs.Common.{sym, ◌∙◌, ap, arith}
 use Rattle.std.proofs.lemmas.Result.{on_ok_weaker, on_err_weaker}
-use Rattle.index.specs.declared.command.Command.TheVariants.{Put}
-use Rattle.index.specs.State.{applied}
+use Rattle.documents.specs.declared.command.Command.TheVariants.{Put}
+use Rattle.documents.specs.State.{applied}
 use Rattle.index.specs.Private.Numbered.{number_of}
 use Rattle.index.specs.Private.Plain.{plain_state}
 use Rattle.index.proofs.catalog.Catalog.apply_put.Goals as goal

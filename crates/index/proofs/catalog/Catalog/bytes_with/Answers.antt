@@ -1,6 +1,6 @@
 use Rattle.std.proofs.Common.{◌≡◌, length, ◌∙◌, ap, arith}
 use Rattle.std.proofs.lemmas.List.{length-map}
-use Rattle.index.specs.State.{body_bytes}
+use Rattle.documents.specs.State.{body_bytes}
 use Rattle.index.specs.Private.Numbered.{state}
 use Rattle.index.specs.Private.Contents.{named}
 use Rattle.index.specs.Private.Plain.{plain_documents}

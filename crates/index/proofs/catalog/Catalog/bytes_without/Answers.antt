@@ -1,5 +1,5 @@
 use Rattle.std.proofs.Common.{◌≡◌, ◌+◌, Some, length, sym, ◌∙◌, ap, arith}
-use Rattle.index.specs.State.{body_bytes}
+use Rattle.documents.specs.State.{body_bytes}
 use Rattle.std.specs.FinMap.{get, remove}
 use Rattle.index.specs.Private.Numbered.{number_of}
 use Rattle.index.specs.Private.Contents.{body_at}

@@ -4,11 +4,11 @@ use Rattle.std.proofs.lemmas.Bool.Decides.{nat_tests}
 use Rattle.std.proofs.lemmas.List.{length-take}
 use Rattle.std.proofs.lemmas.List.Elements.{All-contains}
 use Rattle.std.specs.BTreeMap.{btree_map_len}
-use Rattle.index.specs.declared.command.Command.TheVariants.{CopyUnder}
+use Rattle.documents.specs.declared.command.Command.TheVariants.{CopyUnder}
 use Rattle.index.specs.declared.copying.Copied.{Copied}
 use Rattle.index.specs.declared.copying.Leaves.TheVariants.{Old}
 use Rattle.index.specs.Private.Copying.{IsCopy, IsEntered, AreLeft}
-use Rattle.index.specs.State.{state, applied}
+use Rattle.documents.specs.State.{state, applied}
 use Rattle.index.specs.Private.Plain.{plain_state}
 use Rattle.index.specs.Private.Store.{stored}
 use Rattle.index.proofs.CopiedLemmas.{taken_inside}

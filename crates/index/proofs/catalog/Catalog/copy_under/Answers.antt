@@ -4,9 +4,9 @@ use Rattle.std.specs.Ordering.{nat_cmp}
 use Rattle.std.specs.Cmp.Lexicographic.{slice_cmp}
 use Rattle.std.specs.BTreeMap.{btree_map_len, get}
 use Rattle.std.specs.Prelude.{Contains}
-use Rattle.index.specs.declared.command.Command.TheVariants.{CopyUnder}
+use Rattle.documents.specs.declared.command.Command.TheVariants.{CopyUnder}
 use Rattle.index.specs.declared.copying.Leaves.TheVariants.{Old, New}
-use Rattle.index.specs.State.{state, applied}
+use Rattle.documents.specs.State.{state, applied}
 use Rattle.index.specs.Private.Copying.{restored, IsEntered, AreLeft}
 use Rattle.index.specs.Private.Plain.{plain_state}
 use Rattle.index.specs.Private.Store.{stored}

@@ -1,5 +1,5 @@
 use Rattle.std.proofs.Common.{◌∙◌, ap}
-use Rattle.index.specs.State.{body_bytes}
+use Rattle.documents.specs.State.{body_bytes}
 use Rattle.index.specs.Private.Plain.{plain_documents}
 use Rattle.index.proofs.catalog.Catalog.held_bytes.Goals as goal
 

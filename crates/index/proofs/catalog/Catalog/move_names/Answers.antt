@@ -6,7 +6,7 @@ use Rattle.index.specs.declared.copying.Leaves.TheVariants.{Old}
 use Rattle.index.specs.Private.Contents.{body_at}
 use Rattle.index.specs.Private.Copying.{IsEntered, AreLeft}
 use Rattle.index.specs.Private.Moving.{IsMove}
-use Rattle.index.specs.State.{state}
+use Rattle.documents.specs.State.{state}
 use Rattle.index.specs.Private.Plain.{plain_state}
 use Rattle.index.specs.Private.Slots.{documents_in}
 use Rattle.index.specs.Private.Store.{stored}

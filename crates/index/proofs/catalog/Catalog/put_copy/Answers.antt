@@ -1,13 +1,13 @@
 use Rattle.std.proofs.Common.{◌+◌, ◌<◌, ◌^◌, refl, sym, ◌∙◌, ap, arith, subst}
 use Rattle.std.specs.FinMap.{insert}
-use Rattle.index.specs.State.{body_bytes, state, applied}
+use Rattle.documents.specs.State.{body_bytes, state, applied}
 use Rattle.index.specs.Private.Numbered.{document_at, number_of}
 use Rattle.index.specs.Private.Contents.{IsLeft, is_number}
 use Rattle.index.specs.Private.Plain.{plain_documents, plain_state}
 use Rattle.index.specs.Private.Slots.{documents_in}
 use Rattle.index.specs.Private.Store.{stored}
 use Rattle.std.specs.Prelude.{option_map}
-use Rattle.index.specs.declared.command.Command.TheVariants.{Put}
+use Rattle.documents.specs.declared.command.Command.TheVariants.{Put}
 use Rattle.index.proofs.ApplyLemmas.{AreContents-later}
 use Rattle.index.proofs.NamedLemmas.{number-named, number_is, body_is}
 use Rattle.index.proofs.IndexLemmas.{IsIndex-unchanged, IsIndex-groups, IsIndex-later, IsIndex-put, same-put, later_store, still_left}

@@ -1,7 +1,7 @@
 use Rattle.std.proofs.Common.{◌+◌, ◌<◌, ◌^◌, refl, sym, ◌∙◌, ap, arith, subst}
 use Rattle.std.specs.FinMap.{insert}
-use Rattle.index.specs.declared.command.Command.TheVariants.{Put}
-use Rattle.index.specs.State.{body_bytes, state, applied}
+use Rattle.documents.specs.declared.command.Command.TheVariants.{Put}
+use Rattle.documents.specs.State.{body_bytes, state, applied}
 use Rattle.index.specs.Private.Numbered.{number_of}
 use Rattle.index.specs.Private.Contents.{IsLeft, AreContents, named}
 use Rattle.index.specs.Private.Plain.{plain_documents, plain_state}

@@ -1,7 +1,7 @@
 use Rattle.std.proofs.Common.{◌+◌, ◌<◌, ◌^◌, None, sym, ◌∙◌, ap, arith, subst}
 use Rattle.std.specs.FinMap.{remove}
-use Rattle.index.specs.declared.command.Command.TheVariants.{Remove}
-use Rattle.index.specs.State.{body_bytes, state, applied}
+use Rattle.documents.specs.declared.command.Command.TheVariants.{Remove}
+use Rattle.documents.specs.State.{body_bytes, state, applied}
 use Rattle.index.specs.Private.Contents.{IsLeft}
 use Rattle.index.specs.Private.Plain.{plain_documents, plain_state}
 use Rattle.index.specs.Private.Store.{stored}

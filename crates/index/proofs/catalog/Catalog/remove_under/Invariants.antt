@@ -1,7 +1,7 @@
 use Rattle.std.proofs.Common.{◌≡◌}
 use Rattle.std.specs.FinMap.{len}
-use Rattle.index.specs.declared.command.Command.TheVariants.{RemoveUnder}
-use Rattle.index.specs.Documents.{documents_after}
+use Rattle.documents.specs.declared.command.Command.TheVariants.{RemoveUnder}
+use Rattle.documents.specs.Documents.{documents_after}
 use Rattle.index.specs.Private.Plain.{plain_documents}
 use Rattle.index.proofs.catalog.Catalog.remove_under.Given as goal
 

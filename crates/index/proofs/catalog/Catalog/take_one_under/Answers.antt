@@ -4,15 +4,15 @@ use Rattle.std.specs.Ordering.{nat_cmp}
 use Rattle.std.specs.Cmp.Lexicographic.{slice_cmp}
 use Rattle.std.specs.BTreeMap.{get}
 use Rattle.std.proofs.lemmas.Bool.{false≢true}
-use Rattle.index.specs.State.{state, applied}
+use Rattle.documents.specs.State.{state, applied}
 use Rattle.index.specs.Private.Contents.{body_at, has_name, named}
 use Rattle.index.specs.Private.Plain.{plain_documents, plain_state}
 use Rattle.index.specs.Private.Slots.{documents_in}
 use Rattle.index.specs.Private.Store.{stored}
 use Rattle.std.specs.FinMap.{len}
 use Rattle.std.proofs.lemmas.Map.Lookups.{exact_bytes}
-use Rattle.index.specs.declared.command.Command.TheVariants.{RemoveUnder}
-use Rattle.index.specs.Documents.{documents_after}
+use Rattle.documents.specs.declared.command.Command.TheVariants.{RemoveUnder}
+use Rattle.documents.specs.Documents.{documents_after}
 use Rattle.prefixes.specs.Under.{begins_with}
 use Rattle.index.specs.Private.Numbered.{has_under}
 use Rattle.index.proofs.BytesLemmas.{len-fewer}

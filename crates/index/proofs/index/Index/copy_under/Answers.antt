@@ -1,6 +1,6 @@
 use Rattle.std.proofs.Common.{◌∙◌, ap, arith}
 use Rattle.std.proofs.lemmas.Result.{on_err_weaker}
-use Rattle.index.specs.declared.command.Command.TheVariants.{CopyUnder}
+use Rattle.documents.specs.declared.command.Command.TheVariants.{CopyUnder}
 use Rattle.index.proofs.PlainLemmas.{carried_out}
 use Rattle.index.proofs.index.Index.copy_under.Goals as goal
 

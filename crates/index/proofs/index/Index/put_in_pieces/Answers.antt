@@ -1,5 +1,5 @@
 use Rattle.std.proofs.Common.{ap, arith}
-use Rattle.index.specs.declared.command.Command.TheVariants.{Put}
+use Rattle.documents.specs.declared.command.Command.TheVariants.{Put}
 use Rattle.index.proofs.PlainLemmas.{carried_out, refused}
 use Rattle.index.proofs.index.Index.put_in_pieces.Goals as goal
 

@@ -1,5 +1,5 @@
 use Rattle.std.proofs.Common.{ap, arith}
-use Rattle.index.specs.declared.command.Command.TheVariants.{Remove}
+use Rattle.documents.specs.declared.command.Command.TheVariants.{Remove}
 use Rattle.index.proofs.PlainLemmas.{carried_out, refused}
 use Rattle.index.proofs.index.Index.remove_in_pieces.Goals as goal
 

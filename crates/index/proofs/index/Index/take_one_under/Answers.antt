@@ -1,7 +1,8 @@
 use Rattle.std.proofs.Common.{sym, ◌∙◌, ap, subst}
-use Rattle.index.specs.declared.command.Command.TheVariants.{RemoveUnder}
-use Rattle.index.specs.Documents.{has_under}
-use Rattle.index.specs.State.{IsTakenUnder, applied}
+use Rattle.documents.specs.declared.command.Command.TheVariants.{RemoveUnder}
+use Rattle.documents.specs.Documents.{has_under}
+use Rattle.documents.specs.State.{applied}
+use Rattle.index.specs.Pieces.{IsTakenUnder}
 use Rattle.index.specs.Private.Plain.{plain_state}
 use Rattle.index.proofs.PlainLemmas.{has_under-plain}
 use Rattle.index.proofs.index.Index.take_one_under.Goals as goal

@@ -1,5 +1,5 @@
 use Rattle.std.proofs.Common.{rules, ◌≡◌, ◌∙◌, ◌||◌, ◌&&◌, not, ℕ, List, length, sym, ap, subst, arith}
-use Rattle.index.specs.declared.command.Command.TheVariants.{CopyUnder}
+use Rattle.documents.specs.declared.command.Command.TheVariants.{CopyUnder}
 use Rattle.published.specs.declared.shelf.Update.TheVariants as update
 use Rattle.published.specs.Private.Shelf.{command_of}
 use Rattle.published.specs.Private.DeskParts.{Begins}

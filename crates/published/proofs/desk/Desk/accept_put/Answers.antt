@@ -1,5 +1,5 @@
 use Rattle.std.proofs.Common.{rules, ◌≡◌, sym, subst, arith}
-use Rattle.index.specs.declared.command.Command.TheVariants.{Put}
+use Rattle.documents.specs.declared.command.Command.TheVariants.{Put}
 use Rattle.published.specs.declared.shelf.Update.TheVariants as update
 use Rattle.published.specs.Private.Shelf.{command_of}
 use Rattle.published.specs.Desk.{HasRoom}

@@ -1,5 +1,5 @@
 use Rattle.std.proofs.Common.{rules, ◌≡◌, ◌∙◌, ◌&&◌, not, ℕ, List, sym, subst, arith}
-use Rattle.index.specs.declared.command.Command.TheVariants.{RemoveUnder}
+use Rattle.documents.specs.declared.command.Command.TheVariants.{RemoveUnder}
 use Rattle.published.specs.declared.shelf.Update.TheVariants as update
 use Rattle.published.specs.Private.Shelf.{command_of}
 use Rattle.prefixes.specs.Under.{begins_with}

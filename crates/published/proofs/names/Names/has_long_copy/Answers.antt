@@ -1,7 +1,7 @@
 use Rattle.std.proofs.Common.{length, sym, ap, ◌∙◌}
 use Rattle.std.specs.Prelude.{nat_lt}
 use Rattle.std.specs.List.{list_any}
-use Rattle.index.specs.Documents.{renamed}
+use Rattle.documents.specs.Documents.{renamed}
 use Rattle.published.specs.Private.Names.{has_long_copy}
 use Rattle.published.proofs.UnderNames.{all_left}
 use Rattle.published.proofs.CopyNames.{any_next, any_here, any_stop, any_end}

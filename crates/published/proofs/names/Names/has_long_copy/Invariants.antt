@@ -2,7 +2,7 @@ use Rattle.std.proofs.Common.{◌≡◌, length}
 use Rattle.std.specs.Prelude.{nat_lt}
 use Rattle.std.specs.List.{list_any, take_while}
 use Rattle.prefixes.specs.Under.{begins_with}
-use Rattle.index.specs.Documents.{renamed}
+use Rattle.documents.specs.Documents.{renamed}
 use Rattle.published.specs.Private.Names.{has_long_copy}
 use Rattle.published.proofs.names.Names.has_long_copy.Given as goal
 

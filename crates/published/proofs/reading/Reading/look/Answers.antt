@@ -1,5 +1,5 @@
 use Rattle.std.proofs.Common.{sym, ◌∙◌, ap}
-use Rattle.index.specs.State.{state_of}
+use Rattle.documents.specs.State.{state_of}
 use Rattle.published.proofs.reading.Reading.look.Goals as goal
 
 pub returns-then-meet-clause-looked : goal.returns-then-meet-clause-looked

@@ -1,6 +1,6 @@
 use Rattle.std.proofs.Common.{◌≡◌, ◌++◌, Bool, true, false, not, length, refl, sym, subst}
 use Rattle.std.proofs.lemmas.Bool.{true≢false}
-use Rattle.index.specs.Shared.{documents_shared}
+use Rattle.documents.specs.Shared.{documents_shared}
 use Rattle.search.specs.Front.{AreFronted}
 use Rattle.search.specs.Private.Gathered.{HaveOwnNames, Joins, shown_with}
 use Rattle.std.specs.Prelude.{All}
@@ -8,8 +8,8 @@ use Rattle.search.specs.Private.Known.{AreTold, IsTold}
 use Rattle.search.specs.declared.known.Known.{Known}
 use Rattle.search.proofs.KnownLemmas.{none-told}
 use Rattle.prepare.specs.Request.{Request}
-use Rattle.search.specs.Scan.{candidates_of}
-use Rattle.search.specs.Shown.{IsShownOf}
+use Rattle.views.specs.Scan.{candidates_of}
+use Rattle.views.specs.ShownOf.{IsShownOf}
 use Rattle.search.proofs.FirstLemmas.{part-shown}
 use Rattle.search.proofs.first.FirstPart.show.Goals as goal
 

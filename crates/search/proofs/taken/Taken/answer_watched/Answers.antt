@@ -1,6 +1,6 @@
 use Rattle.std.proofs.Common.{sym, subst}
 use Rattle.std.specs.Prelude.{All}
-use Rattle.index.specs.Shared.{documents_shared}
+use Rattle.documents.specs.Shared.{documents_shared}
 use Rattle.search.specs.Front.{AreFronted}
 use Rattle.search.specs.Private.Known.{HasBody, IsEntry, IsTold}
 use Rattle.search.specs.declared.known.Known.{Known}
@@ -9,7 +9,7 @@ use Rattle.prepare.specs.declared.pattern.Prepared.{Prepared}
 use Rattle.search.proofs.KnownLemmas.{body_by, kept-bodies, told-by}
 use Rattle.prepare.specs.Prepared.{request_of}
 use Rattle.prepare.specs.Request.{Request}
-use Rattle.search.specs.Scan.{IsScanOf}
+use Rattle.views.specs.Scan.{IsScanOf}
 use Rattle.search.proofs.AnswerLemmas.{hits-are}
 use Rattle.search.proofs.taken.Taken.answer_watched.Goals as goal
 

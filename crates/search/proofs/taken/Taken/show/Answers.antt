@@ -1,6 +1,6 @@
 use Rattle.std.proofs.Common.{◌≡◌, length, sym, ◌∙◌, subst}
 use Rattle.std.specs.Prelude.{All}
-use Rattle.index.specs.Shared.{documents_shared}
+use Rattle.documents.specs.Shared.{documents_shared}
 use Rattle.std.proofs.lemmas.Result.{IfOk-weaker}
 use Rattle.search.specs.Front.{AreFronted}
 use Rattle.search.specs.Private.Gathered.{HaveOwnNames, Joins, shown_with}
@@ -10,8 +10,8 @@ use Rattle.prepare.specs.Tests.{test_of}
 use Rattle.prepare.specs.declared.pattern.Prepared.{Prepared}
 use Rattle.search.proofs.KnownLemmas.{body_by, kept-bodies, told-by}
 use Rattle.prepare.specs.Request.{Request}
-use Rattle.search.specs.Scan.{candidates_of}
-use Rattle.search.specs.Shown.{IsShownOf}
+use Rattle.views.specs.Scan.{candidates_of}
+use Rattle.views.specs.ShownOf.{IsShownOf}
 use Rattle.search.proofs.AnswerLemmas.{shown-is}
 use Rattle.search.proofs.taken.Taken.show.Goals as goal
 

@@ -1,5 +1,5 @@
 use Rattle.std.proofs.Common.{subst, sym}
-use Rattle.search.specs.Shown.{IsShownOf}
+use Rattle.views.specs.ShownOf.{IsShownOf}
 use Rattle.service.proofs.wish.Wish.timed.Goals as goal
 
 pub returns-in-Some : goal.returns-in-Some

@@ -1,5 +1,5 @@
 use Rattle.tsearch.proofs.AheadLemmas.{begun_more, begun_in_part}
-use Rattle.tsearch.proofs.ServingLemmas.{on_err}
+use Rattle.event_loop.proofs.ServingLemmas.{on_err}
 use Rattle.tsearch.proofs.written.WrittenSink.begin.Goals as goal
 
 pub returns-in_err-write_last-clause-err : goal.returns-in_err-write_last-clause-err

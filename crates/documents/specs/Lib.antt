@@ -1,0 +1,4 @@
+pub mod Text
+pub mod Documents
+pub mod State
+pub mod Shared

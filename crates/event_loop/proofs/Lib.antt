@@ -1,0 +1,3 @@
+pub mod HeldLemmas
+pub mod RunLemmas
+pub mod ServingLemmas

@@ -1,0 +1,3 @@
+pub mod Collects
+pub mod Running
+pub mod Serving
