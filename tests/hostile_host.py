@@ -39,6 +39,8 @@ ORDINARY, FILES, ROUNDS, VISITORS, HOSTILE = 9, 20, 12, 3, 4
 # repository is loaded, or named with a fault.
 SECONDS, TO_LOAD = 180, 60
 MEBIBYTE = 1 << 20
+# The usual times of a search and of a review, which the tests of the page do not have.
+USUAL = ("--search-ms", "3000", "--review-ms", "20000")
 # What ordinary visitors ask for. For each kind the time by the median, that of 95 % and the longest are shown.
 KINDS = {"/api/find": "searches", "/api/file": "files", "/api/count": "counts", "/health": "health"}
 # So many characters make 66**3 texts of three, which is all that a line needs to have each trigram of them.
@@ -489,7 +491,7 @@ def main():
             one.commit("main", {b"src/f%d.c" % file: text_of(number, file) for file in range(FILES)})
         settings(top)
         try:
-            with serving_in(top, "--settings", str(top / "host.toml"), "--proxy", "127.0.0.1", count=ORDINARY) as server:
+            with serving_in(top, *USUAL, "--settings", str(top / "host.toml"), "--proxy", "127.0.0.1", count=ORDINARY) as server:
                 for kind in ATTACKS:
                     if not wanted or kind.__name__ in wanted:
                         carry_out(kind, server, top, ordinary, counted)

@@ -18,8 +18,8 @@ PACKAGE = TESTS.parent
 TOP = PACKAGE.parent.parent
 sys.path.insert(0, str(PACKAGE))
 
-# How long anything may take, in seconds: far more than it does on a machine with much else to do.
-SECONDS = 60.0
+# How long anything may take, in seconds: far more than it does on a machine with much else to do. Nothing that goes well takes longer for it.
+SECONDS = 180.0
 
 # Among large counts, a star with a `$` takes a round for each byte of a line, and each round looks at all that can come next.
 SLOW = r"x([ab]|a([ab]{250}){15}c|d$)*e|^end$"
@@ -158,13 +158,32 @@ def places(compiled: re.Pattern[bytes], line: bytes, get, is_found: bool) -> tup
     return column, spans if get("spans") and is_found else None
 
 
-def state_of(pid: int) -> str:
-    """The state of a process, as in /proc; empty if there is none."""
+def _told_of(pid: int) -> tuple[str, str, int]:
+    """What a process is called, its state, and which process has started it, as in /proc; empty texts and 0 if there is none."""
     try:
         with open(f"/proc/{pid}/stat", encoding="utf-8", errors="replace") as file:
-            return file.read().rpartition(")")[2].split()[0]
-    except OSError:
-        return ""
+            name, _, rest = file.read().partition("(")[2].rpartition(")")
+        state, parent = rest.split()[:2]
+        return name, state, int(parent)
+    except (OSError, ValueError):
+        return "", "", 0
+
+
+def state_of(pid: int) -> str:
+    """The state of a process; empty if there is none."""
+    return _told_of(pid)[1]
+
+
+def named(pid: int) -> str:
+    """What a process is called; empty if there is none."""
+    return _told_of(pid)[0]
+
+
+def children_of(pid: int) -> list[int]:
+    """The processes that a process has started and that have not ended. All processes are looked at: the list of children that Linux has lacks some
+    while others end."""
+    told = {int(entry): _told_of(int(entry)) for entry in os.listdir("/proc") if entry.isdecimal()}
+    return sorted(child for child, (_, state, parent) in told.items() if parent == pid and state not in ("Z", "X"))
 
 
 def stop(pid: int) -> None:

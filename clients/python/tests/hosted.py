@@ -34,7 +34,7 @@ class Hosted(Browsing):
         cls.made.commit("topic/x", {b"src/util.c": b"int call(int x)\n{\n    int more;\n    return x + more;\n}\n", b"src/new.c": b"int more;\n"}, start="main")
         cls.other = Made(top / "other.git")
         cls.other.commit("main", {b"many.txt": FILES[b"many.txt"], b"few.txt": b"int few;\n"})
-        words = ["--revisions", "main", "--revisions", "topic/*", "--link", LINK, "--most-lines", "100", "--search-ms", "2000", "--readers", "1"]
+        words = ["--revisions", "main", "--revisions", "topic/*", "--link", LINK, "--most-lines", "100", "--search-ms", "6000", "--readers", "1"]
         return cls.enterClassContext(serving_in(top, *words, str(cls.made.path), str(cls.other.path), count=2))
 
     def words(self) -> dict[str, str]:

@@ -17,7 +17,7 @@ import urllib.parse
 import urllib.request
 from collections.abc import Iterator, Sequence
 
-from helpers import PACKAGE, SECONDS, SLOW, slow_documents, until
+from helpers import PACKAGE, SECONDS, SLOW, children_of, named, slow_documents, until
 
 # What the process of a session is called: Linux keeps 15 bytes of it.
 PROGRAM = os.path.basename(os.environ.get("TSEARCH", "tsearch"))[:15]
@@ -37,11 +37,6 @@ DOCUMENTS = {
 EVERYTHING = {"X-Filters": json.dumps({name: {} for name in (*DOCUMENTS, "made", "second")})}
 
 
-def _called(pid: str) -> str:
-    """What a process is called; nothing if it has ended."""
-    with contextlib.suppress(FileNotFoundError, ProcessLookupError):
-        return pathlib.Path(f"/proc/{pid}/comm").read_text().strip()
-    return ""
 
 
 class Server:
@@ -60,11 +55,7 @@ class Server:
 
     def programs(self) -> list[int]:
         """The process of the session. A command that is run meanwhile, as git is, is none."""
-        found = set()
-        for task in pathlib.Path(f"/proc/{self.pid}/task").iterdir():
-            with contextlib.suppress(FileNotFoundError, ProcessLookupError):  # a thread may end at any time
-                found.update((task / "children").read_text().split())
-        return sorted(int(pid) for pid in found if _called(pid) == PROGRAM)
+        return [pid for pid in children_of(self.pid) if named(pid) == PROGRAM]
 
     def get(self, path: str, headers: dict[str, str] | None = None) -> tuple[int, bytes, dict[str, str]]:
         """The status, the body and the headers of an answer."""
@@ -111,12 +102,15 @@ class Server:
             until(lambda wanted=before + len(more): self.documents(repository) == wanted)
 
 
-def free_port() -> int:
-    """A port that nobody listens at."""
-    with socket.socket() as free:
-        free.bind(("127.0.0.1", 0))
-        port: int = free.getsockname()[1]
-        return port
+@contextlib.contextmanager
+def free_port() -> Iterator[int]:
+    """A port that nobody listens at. While the block lasts the system gives it to nobody who asks for any, and lets a server have it that
+    sets SO_REUSEADDR, as all do."""
+    with socket.socket() as held:
+        held.setsockopt(socket.SOL_SOCKET, socket.SO_REUSEADDR, 1)
+        held.bind(("127.0.0.1", 0))
+        port: int = held.getsockname()[1]
+        yield port
 
 
 @contextlib.contextmanager
@@ -137,8 +131,14 @@ def serving(*options: str) -> Iterator[Server]:
 def serving_in(top: pathlib.Path, *words: str, count: int, loaded: int | None = None, names: Sequence[str] = ()) -> Iterator[Server]:
     """A server with these words, which serves so many repositories, and has its log in a folder. Once it has loaded all of them, or so many,
     it is there. With a header for filters it has to be told their names."""
-    port = free_port()
-    words = ("--port", str(port), "--look", "0.2", *words)
+    with free_port() as port, _serving_at(port, top, *words, count=count, loaded=loaded, names=names) as server:
+        yield server
+
+
+@contextlib.contextmanager
+def _serving_at(port: int, top: pathlib.Path, *words: str, count: int, loaded: int | None, names: Sequence[str]) -> Iterator[Server]:
+    # without words of the test that say less, no search and no review is given up for its time, however slow the machine is
+    words = ("--port", str(port), "--look", "0.2", "--search-ms", "600000", "--review-ms", "600000", *words)
     environment = {**os.environ, "PYTHONPATH": str(PACKAGE)}
     with open(top / "log", "wb") as log:
         process = subprocess.Popen([sys.executable, "-B", "-m", "tsearch.web", *words], env=environment, stdout=log, stderr=log)

@@ -226,7 +226,7 @@ class Sessions(unittest.IsolatedAsyncioTestCase):
         """
         session = await aio.Session.start(stand_in(code))
         tasks = [asyncio.create_task(session.find(pattern)) for pattern in ("slow", "late")]
-        await asyncio.sleep(0.2)
+        await self.until(lambda: len(session._connection.open_futures()) == 2)
         for task in tasks:
             task.cancel()
         async with asyncio.timeout(SECONDS):
@@ -248,9 +248,9 @@ class Sessions(unittest.IsolatedAsyncioTestCase):
         session = await aio.Session.start(stand_in(code))
         with stopped(session.pid):
             put = asyncio.create_task(session.put("a", b"x" * 1_000_000))
-            await asyncio.sleep(0.1)
+            await asyncio.sleep(0)  # it is sent first
             search = asyncio.create_task(session.find("x"))
-            await asyncio.sleep(0.1)
+            await self.until(lambda: session._connection.open_futures())
             self.assertFalse(put.done() or search.done())
             search.cancel()
             await asyncio.wait([search])

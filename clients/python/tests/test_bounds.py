@@ -248,7 +248,7 @@ class Host(unittest.TestCase):
         self.made.commit("main", {b"feeds": b"\n" * (48 << 20), b"lines": b"".join(b"%07x\n" % at for at in range(500_000))})
         commit = self.made.git("rev-parse", "main")
         self.made.git("update-ref", "--stdin", stdin=b"".join(b"create refs/heads/b%04d %s\n" % (at, commit.encode()) for at in range(3_000)))
-        bounds = ["--max-bytes", str(limit), "--max-files", str(names), "--max-branches", "100"]
+        bounds = ["--max-bytes", str(limit), "--max-files", str(names), "--max-branches", "100", "--search-ms", "3000"]
         ordinary = Made(self.top / "ordinary.git")
         ordinary.commit("main", {b"a.c": b"int x;\n"})
         usual = _highest(self.served_by(*bounds, "--revisions", "main", str(ordinary.path)))

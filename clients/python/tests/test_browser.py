@@ -13,7 +13,7 @@ from serving import serving
 class Page(Browsing):
     @classmethod
     def serve(cls):
-        return cls.enterClassContext(serving("--search-ms", "2000", "--most-lines", "100", "--readers", "1"))
+        return cls.enterClassContext(serving("--search-ms", "6000", "--most-lines", "100", "--readers", "1"))
 
     def test_typing(self) -> None:
         """A search for each letter, of which the last one stands, however quickly they come."""
@@ -133,12 +133,16 @@ class Page(Browsing):
             self.wait(lambda: not self.server.hits("^changed$"))
 
     def test_a_slow_search_does_not_hold_up_another_visitor(self) -> None:
-        self.server.make_slow("two", 1.5)
-        self.one("#pattern").send_keys(SLOW)
-        self.wait(lambda: b"\ntsearch_open_searches 0\n" not in self.server.get("/metrics")[1])
-        self.assertEqual(len(self.server.hits("int main", repository="one")), 1)
-        # that one came first
-        self.assertEqual(self.done(), "")
+        self.server.make_slow("two", 3)
+        for _ in range(5):
+            self.one("#pattern").send_keys(SLOW)
+            self.wait(lambda: b"\ntsearch_open_searches 0\n" not in self.server.get("/metrics")[1])
+            self.assertEqual(len(self.server.hits("int main", repository="one")), 1)
+            # that one came first, unless this test had no processor for as long as the other one took
+            if is_first := self.done() == "":
+                break
+            self.one("#pattern").clear()
+        self.assertTrue(is_first)
         # nor the same one, who searches where it is not slow
         self.one("#repositories label:nth-child(1)").click()
         self.wait(lambda: self.done() == SLOW)

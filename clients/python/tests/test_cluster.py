@@ -385,7 +385,8 @@ class Page(unittest.TestCase):
                 (["-c", hidden], address, "a cluster needs the library distributed"),
             ):
                 with self.subTest(scheduler=scheduler):
-                    command = [sys.executable, "-B", *words, "--port", str(free_port()), "--cluster", scheduler, top]
+                    port = self.enterContext(free_port())
+                    command = [sys.executable, "-B", *words, "--port", str(port), "--cluster", scheduler, top]
                     done = subprocess.run(command, cwd=PACKAGE, env={**os.environ, **late}, capture_output=True, check=False, timeout=SECONDS, text=True)
                     self.assertEqual(done.returncode, 1)
                     self.assertIn(f"tsearch.web: {said}", done.stderr)

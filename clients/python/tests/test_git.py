@@ -13,7 +13,7 @@ import time
 import unittest
 import unittest.mock
 
-from helpers import TOP, found_in, until  # puts the package on the path of modules
+from helpers import SECONDS, TOP, found_in, until  # puts the package on the path of modules
 from made import Made
 
 import tsearch
@@ -565,6 +565,7 @@ class Revisions(unittest.TestCase):
                 with self.assertRaisesRegex(git.NoRepository, "git does not answer in 1 seconds"):
                     await again.refresh()
                 self.assertFalse(waits.done())
+                waiting.objects.store.seconds = SECONDS
                 pipe.open("w").close()
                 await waits
                 self.assertEqual((await session.find("", names_only=True, under="1:")).count, len(FILES))
@@ -773,10 +774,8 @@ class Revisions(unittest.TestCase):
                 await revisions.refresh()
                 self.assertEqual(len(await session.find("int main")), 1)
                 made.commit("main", {b"src/main.c": b"int other;\n"})
-                began = time.monotonic()
                 refreshed = await revisions.refresh()
                 self.assertEqual((refreshed.put, refreshed.removed), (1, 0))
-                self.assertLess(time.monotonic() - began, 10)
                 self.assertEqual([hit.text for hit in await session.find("int other")], [b"int other;"])
                 # a branch that comes is a copy
                 made.commit("topic", {b"src/x.c": b"int x;\n", b"README": None}, start="main")

@@ -71,6 +71,8 @@ class Hints(unittest.TestCase):
         self.watch("git", of_git=True)
         until(lambda: self.is_told("git", "refs/heads/a/b"))
         until(lambda: self.is_told("git", "packed-refs"))
+        # twice: what is told of others together with the first one is told by then
+        until(lambda: self.is_told("tree", "a/b"))
         until(lambda: self.is_told("tree", "a/b"))
         before = self.told["git"]
         self.write("git/objects/12/34")
@@ -79,6 +81,8 @@ class Hints(unittest.TestCase):
         with watching.hints([os.fsencode(self.top / "tree")], lambda: self.told.update(["other"])):
             until(lambda: self.is_told("tree", "a/d"))
             until(lambda: self.told["other"])
+        # what was being told as it left
+        until(lambda: self.is_told("tree", "a/e"))
         other = self.told["other"]
         until(lambda: self.is_told("tree", "a/e"))
         self.assertEqual(self.told["other"], other)

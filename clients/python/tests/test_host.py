@@ -9,7 +9,6 @@ import shutil
 import signal
 import stat
 import tempfile
-import time
 import unittest
 
 from helpers import until
@@ -154,9 +153,7 @@ class Repositories(Host):
         clone = Made(self.top / "clone", is_bare=False)
         clone.commit("main", {b"%d.c" % number: b"int pushed;\n" for number in range(50)})
         clone.git("push", "-q", "origin", "main")
-        began = time.monotonic()
         until(lambda: len(server.hits("int pushed")) == 50)
-        self.assertLess(time.monotonic() - began, 10)
         self.assertEqual(server.get("/api/look?repository=made")[0], 405)
 
     def test_shares(self) -> None:

@@ -153,7 +153,7 @@ class Links(Hosted):
         self.wait(lambda: self.all("#results .missing") and [row[0] for row in self.shown()] == ["few.txt"])
         # the other does not wait for it, and it has its own time then
         said = "return [...document.querySelectorAll('#results .missing')].map(one => one.textContent)"
-        self.wait(lambda: self.browser.execute_script(said) == ["made gives no answer: too slow after 2000 ms; try a narrower one."])
+        self.wait(lambda: self.browser.execute_script(said) == ["made gives no answer: too slow after 6000 ms; try a narrower one."])
         self.assertIn("No answer from made.", self.one("#status").text)
         self.one("#pattern").clear()
         os.kill(self.server.programs()[0], signal.SIGKILL)

@@ -5,6 +5,7 @@ from __future__ import annotations
 import asyncio
 import collections
 import concurrent.futures
+import gc
 import logging
 import os
 import re
@@ -16,6 +17,7 @@ import threading
 import time
 import unittest
 import unittest.mock
+import urllib.error
 
 from helpers import SECONDS, SLOW, slow_file, stopped, until
 from serving import Server
@@ -163,7 +165,7 @@ class Crowds(Host):
 
     def test_when_to_come_again(self) -> None:
         """A search and a file that are too many are told so, with a status and a time."""
-        server = self.serve("--proxy", "127.0.0.1", "--search-ms", "60000", "--visitor-waiting", "1", "--visitor-at-work", "1", "--visitor-all-waiting", "2", str(self.made.path))
+        server = self.serve("--proxy", "127.0.0.1", "--visitor-waiting", "1", "--visitor-at-work", "1", "--visitor-all-waiting", "2", str(self.made.path))
         with concurrent.futures.ThreadPoolExecutor(10) as pool, stopped(server.programs()[0]):
             asked = []
             for address, count, wanted in ("192.0.2.1", 3, (429, "1")), ("198.51.100.1", 3, (429, "1")), ("203.0.113.1", 2, (503, "5")):
@@ -188,7 +190,7 @@ class Crowds(Host):
             with concurrent.futures.ThreadPoolExecutor(count) as pool, stopped(server.programs()[0]):
                 asked = [pool.submit(server.get, "/api/find?q=int") for _ in range(count)]
                 until(lambda: sum(one.done() for one in asked) + self.metric(server, "tsearch_web_connections") - 1 >= count)
-                until(lambda: any(one.done() for one in asked), 5)
+                until(lambda: any(one.done() for one in asked))
                 found = [one.result()[0] for one in asked if one.done()]
                 os.kill(server.programs()[0], signal.SIGCONT)
             return found
@@ -207,27 +209,38 @@ class Crowds(Host):
     def test_connections_of_one_visitor(self) -> None:
         """They have a part of all, and one more is told so."""
         server = self.serve("--visitor-connections", "160", str(self.made.path))
-        held = [self.connect(server) for _ in range(10)]
-        until(lambda: "tsearch_web_connections 10" in self.read(held[0], "/metrics"))
+        held = [self.connect(server)]
+        # those that asked whether the page is there have ended, and may not have been counted off yet
+        until(lambda: "tsearch_web_connections 1\n" in self.read(held[0], "/metrics"))
+        for _ in range(9):
+            held.append(self.connect(server))
+            self.assertIn("200 OK", self.read(held[-1], "/health"))  # one that asks nothing is closed after a while
+        self.assertIn("tsearch_web_connections 10\n", self.read(held[0], "/metrics"))
         refused = [self.connect(server) for _ in range(3)]
         for one in refused:
             one.sendall(b"GET / HTTP/1.1\r\nHost: localhost\r\n\r\n")
             self.assertTrue(one.recv(100).startswith(b"HTTP/1.1 503 Service Unavailable\r\nRetry-After: 5\r\n"))
-        self.assertIn("tsearch_web_connections_refused_total 3", self.read(held[0], "/metrics"))
+        self.assertIn("tsearch_web_connections_refused_total 3\n", self.read(held[0], "/metrics"))
         held.pop().close()
-        until(lambda: "tsearch_web_connections 9" in self.read(held[0], "/metrics"))
+        until(lambda: "tsearch_web_connections 9\n" in self.read(held[0], "/metrics"))
         self.assertIn("200 OK", self.read(self.connect(server), "/health"))
 
     def read(self, connection: socket.socket, path: str) -> str:
         """An answer on a connection that stays."""
         connection.sendall(f"GET {path} HTTP/1.1\r\nHost: localhost\r\n\r\n".encode())
         data = b""
+
+        def more() -> bytes:
+            came = connection.recv(1 << 16)
+            self.assertTrue(came, (path, data))
+            return came
+
         while b"\r\n\r\n" not in data:
-            data += connection.recv(1 << 16)
+            data += more()
         head, _, body = data.partition(b"\r\n\r\n")
         length = int(re.search(rb"Content-Length: (\d+)", head)[1])
         while len(body) < length:
-            body += connection.recv(1 << 16)
+            body += more()
         return (head + b"\r\n\r\n" + body).decode()
 
     def test_more_connections_than_files(self) -> None:
@@ -247,7 +260,14 @@ class Crowds(Host):
         self.assertNotIn("out of system resource", server.log)
         for one in held:
             one.close()
-        until(lambda: server.get("/health")[0] == 200)
+
+        def is_let_in() -> bool:
+            try:
+                return server.get("/health")[0] == 200
+            except (urllib.error.URLError, ConnectionError):
+                return False  # the page has not seen yet that so many are closed
+
+        until(is_let_in)
         self.made.commit("main", {b"new.c": b"int new;\n"})
         until(lambda: server.hits("int new"))
 
@@ -279,10 +299,13 @@ class Doors(unittest.IsolatedAsyncioTestCase):
 
     async def asyncSetUp(self) -> None:
         from aiohttp import web
+        from tsearch.web import connections
         from tsearch.web.connections import Connection, Connections, Door
         from tsearch.web.turns import Networks
         from tsearch.web.visitors import Visitors
 
+        # none asks, and none is closed for it
+        self.enterContext(unittest.mock.patch.object(connections, "TO_ASK", 100 * SECONDS))
         limits = resource.getrlimit(resource.RLIMIT_NOFILE)
         if limits[0] < 3_000:
             resource.setrlimit(resource.RLIMIT_NOFILE, (min(3_000, limits[1]), limits[1]))
@@ -301,6 +324,7 @@ class Doors(unittest.IsolatedAsyncioTestCase):
         self.addAsyncCleanup(self.close)
         self.place = self.door._listening[0].getsockname()
         self.clients: list[socket.socket] = []
+        gc.collect()  # files that nobody uses any more are none that are counted
         self.before = len(os.listdir("/proc/self/fd"))
 
     async def close(self) -> None:

@@ -169,7 +169,7 @@ class Operators(unittest.TestCase):
     def nginx(self, page: int) -> int:
         """The port of nginx, with the block of the page."""
         self.certificate()
-        port = free_port()
+        port = self.enterContext(free_port())
         block = self.here(blocks("nginx")[0], page).replace("listen 443 ssl", f"listen 127.0.0.1:{port} ssl")
         temporary = "".join(f"{one}_temp_path {self.top}/{one};\n" for one in ("client_body", "proxy", "fastcgi", "uwsgi", "scgi"))
         (self.top / "nginx.conf").write_text(
@@ -244,7 +244,7 @@ class Operators(unittest.TestCase):
     @unittest.skipUnless(all(map(shutil.which, ("caddy", "curl"))), "caddy or curl is missing")
     def test_caddy(self) -> None:
         server = self.serve("--look", "1000")
-        port, page = free_port(), int(server.address.rpartition(":")[2])
+        port, page = self.enterContext(free_port()), int(server.address.rpartition(":")[2])
         block = self.here(blocks("caddy")[0], page).replace(f"{NAME} {{", f"http://{NAME}:{port} {{", 1)
         (self.top / "Caddyfile").write_text("{\n\tadmin off\n\tauto_https off\n}\n" + block)
         self.start("/usr/bin/caddy", "run", "--adapter", "caddyfile", "--config", str(self.top / "Caddyfile"))

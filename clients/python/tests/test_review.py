@@ -266,9 +266,9 @@ class Reviews(unittest.TestCase):
         made.commit("b", {b"%d.c" % at: b"".join(b"int line_%d;\n" % (line + line // 100) for line in range(300)) for at in range(300)}, start="a")
         with Review(self.session, made.path, "a", "b") as review:
             review.find("line_1;")
-            began = time.monotonic()
+            began = time.process_time()
             found = review.find("line_1[05]0;")
-            self.assertLess(time.monotonic() - began, 10)
+            self.assertLess(time.process_time() - began, 10)
             self.assertEqual([found.count(sign) for sign in "-+ "], [300, 0, 300])
 
 

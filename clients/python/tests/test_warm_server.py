@@ -5,7 +5,6 @@ from __future__ import annotations
 import contextlib
 import json
 import os
-import pathlib
 import re
 import shutil
 import signal
@@ -13,7 +12,7 @@ import socket
 import subprocess
 import unittest
 
-from helpers import SLOW, TOP, slow_documents, until
+from helpers import SECONDS, SLOW, TOP, children_of, slow_documents, until
 from tsearch.errors import Error
 from tsearch.warm import WarmRefused
 from warmed import TGREP, Place, shown_by
@@ -111,8 +110,8 @@ class Faults(Place):
         warm.ask("overlay", name="b", text="foo too\n")
         self.assertEqual(shown_by(warm, "foo")[0], 2)
         server = warm.ask("status")["process"]
-        for child in pathlib.Path(f"/proc/{server}/task/{server}/children").read_text(encoding="ascii").split():
-            os.kill(int(child), signal.SIGKILL)
+        for child in children_of(server):
+            os.kill(child, signal.SIGKILL)
         self.assertEqual(shown_by(warm, "foo")[0], 2)
         os.kill(server, signal.SIGKILL)
         with self.assertRaises((Error, OSError)):
@@ -161,7 +160,7 @@ const {{ Tgrep }} = require({json.dumps(str(NODE))});
   require("node:fs").writeFileSync("c.c", "foo\\n");
 }})();
 """
-        done = subprocess.run(["node", "-e", script], cwd=self.top, capture_output=True, check=False, timeout=60)
+        done = subprocess.run(["node", "-e", script], cwd=self.top, capture_output=True, check=False, timeout=SECONDS)
         self.assertEqual(done.stderr, b"")
         first, *rest = done.stdout.decode().splitlines()
         documents = [{"name": "a.c", "lines": [{"line": 1, "text": "é foo(1)", "spans": [[2, 5]]}]}]
@@ -184,7 +183,7 @@ const {{ Tgrep }} = require({json.dumps(str(NODE))});
 }})();
 """
         environment = {**os.environ, "TSEARCH": "/none/tsearch"}
-        done = subprocess.run(["node", "-e", script], cwd=self.top, env=environment, capture_output=True, check=False, timeout=60)
+        done = subprocess.run(["node", "-e", script], cwd=self.top, env=environment, capture_output=True, check=False, timeout=SECONDS)
         self.assertEqual(done.stderr, b"")
         wanted = [
             f"{top}/none is no folder", f"{top}/a.c is no folder", "spawn /none/tgrep ENOENT", "/bin/true is not tgrep",

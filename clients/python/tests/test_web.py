@@ -46,7 +46,7 @@ def plain_rows(answer, repository: str, is_whole: bool, start: bytes) -> list[di
 class Web(unittest.TestCase):
     @classmethod
     def setUpClass(cls) -> None:
-        cls.server = cls.enterClassContext(serving("--search-ms", "5000", "--most-lines", "50"))
+        cls.server = cls.enterClassContext(serving("--search-ms", "20000", "--most-lines", "50"))
 
     def test_searches(self) -> None:
         hits = self.server.hits
