@@ -32,7 +32,8 @@ from judge import transcripts
 CLIENT = TOP / "examples/live_folder.py"
 EXAMPLES = sorted((TOP / "examples").glob("*.script"))
 READERS = ["2", "0"]
-SECONDS = 60
+# How long anything may take, also where other work has the processors. Nothing that goes well takes longer for it.
+SECONDS = 180
 # How many seconds a test waits before it concludes that nothing comes.
 QUIET = 0.05
 REPLACEMENTS = 20_000

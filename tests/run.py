@@ -78,7 +78,7 @@ READERS = ["0"] if GIVEN.compiled else ["16"] if GIVEN.again else ["0", "1", "2"
 SESSIONS = ["0", "2"] if GIVEN.compiled else READERS
 SUFFIXES = {".script", ".args", ".run", ".setup", ".stdout", ".stdout-has", ".stderr", ".stderr-has", ".status"}
 LIVE = "--live"
-SECONDS = 120
+SECONDS = 300
 
 # How a case is run: whether as a session, and with how many readers. None is without a number.
 Way = collections.namedtuple("Way", "live readers")
@@ -349,7 +349,8 @@ def compare_readme(base):
     for way in ("./tsearch --live", "./tgrep "):
         if not any(way in command for command, _ in shown):
             raise Wrong(f"no command has {way!r}")
-    with tempfile.TemporaryDirectory() as folder:
+    # a server that a command has started may leave something as it ends
+    with tempfile.TemporaryDirectory(ignore_cleanup_errors=True) as folder:
         copy = pathlib.Path(folder)
         shutil.copytree(EXAMPLES, copy / "examples")
         shutil.copytree(CLIENTS, copy / "clients", ignore=shutil.ignore_patterns("__pycache__"))

@@ -12,6 +12,7 @@ import tempfile
 from counted import Counted, Wrong
 from editors import trees
 from editors.neovim import PLUGIN, Neovim, grep, write
+from terminal.faults import programs_of
 from terminal.trees import TGREP, environment_in, run, stop_all
 
 WORD = "ListenAndServe"
@@ -208,8 +209,9 @@ def a_killed_server_is_started_again(place):
         neovim.type("ggOa_kept_line<Esc>:Tgrep<CR>a_kept")
         neovim.until(lambda: neovim.told() == "1 line", "an unsaved line")
         server = server_of(place)
-        for child in pathlib.Path(f"/proc/{server}/task/{server}/children").read_text(encoding="ascii").split():
-            os.kill(int(child), signal.SIGKILL)
+        for program in programs_of(server, place.program):
+            with contextlib.suppress(ProcessLookupError):  # it may be one that ends
+                os.kill(program, signal.SIGKILL)
         neovim.type("_line")
         neovim.until(lambda: neovim.told() == "1 line" and neovim.lua("return require('tgrep.window').current().asked.pattern") == "a_kept_line",
                      "the line without its program")

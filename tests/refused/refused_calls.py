@@ -32,7 +32,7 @@ WANTED = b"each call did its work, at once or after a refusal\n"
 def run(library, program, refused):
     """The status and the output of the run whose request with this number is refused, and how many there were."""
     env = dict(os.environ, LD_PRELOAD=library, REFUSED=str(refused))
-    done = subprocess.run([program], env=env, stdin=subprocess.DEVNULL, capture_output=True, check=False, timeout=60)
+    done = subprocess.run([program], env=env, stdin=subprocess.DEVNULL, capture_output=True, check=False, timeout=300)
     return (done.returncode, done.stdout), int(done.stderr.split()[-1])
 
 

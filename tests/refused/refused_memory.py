@@ -59,13 +59,13 @@ def answers_without(line):
     """What a run writes for the script without the item on this line, with enough memory. No item is on line 0."""
     lines = [1 + b"".join(ITEMS[:place]).count(b"\n") for place in range(len(ITEMS))]
     left = [item for item, number in zip(ITEMS, lines) if number != line]
-    return subprocess.run([PROGRAM, "--readers", "0"], input=b"".join(left), stdout=subprocess.PIPE, check=False, timeout=60).stdout
+    return subprocess.run([PROGRAM, "--readers", "0"], input=b"".join(left), stdout=subprocess.PIPE, check=False, timeout=300).stdout
 
 
 def run(library, script, words, refused):
     """The status, the output and the messages of the run whose request with this number is refused, and how many there were."""
     env = dict(os.environ, LD_PRELOAD=library, REFUSED=str(refused))
-    done = subprocess.run([PROGRAM, *words, script], env=env, capture_output=True, check=False, timeout=60)
+    done = subprocess.run([PROGRAM, *words, script], env=env, capture_output=True, check=False, timeout=300)
     messages, count = re.fullmatch(rb"(.*)requests (\d+)\n", done.stderr, re.DOTALL).groups()
     return done.returncode, done.stdout, messages, int(count)
 

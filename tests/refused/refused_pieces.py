@@ -54,7 +54,7 @@ def fault_of(library):
     with subprocess.Popen(words, env=env, **pipes) as session:
         refused = is_refused(session)
         time.sleep(SECONDS)
-        _, messages = session.communicate(timeout=60)
+        _, messages = session.communicate(timeout=300)
     if not refused:
         return "no publish is refused"
     requests = int(re.fullmatch(rb"requests (\d+)\n", messages)[1])

@@ -54,7 +54,7 @@ TIMES = [(NO_READERS, 1), (TWO_READERS, 5), (SESSION, 1), (READING, 5)]
 # With readers, a run can make some more requests than the one before.
 MORE = 20
 # How long a run may take, and the runs that have taken longer.
-SECONDS, FEW_ENDLESS, ENDLESS = 30, 8, []
+SECONDS, FEW_ENDLESS, ENDLESS = 120, 8, []
 
 # A body that is too large to be matched line by line, and searches of it, with the outcome if there is no memory to compile the pattern,
 # or in the last search the name pattern, and how many requests that takes at least.

@@ -26,7 +26,7 @@ from built import PROGRAM, need_program, put  # noqa: E402
 from counted import Counted  # noqa: E402
 from judge import transcripts  # noqa: E402
 
-SECONDS = 120
+SECONDS = 300
 NO_MEMORY = b"tsearch: out of memory\n"
 # Puts or publishes were refused, and searches, again and again, and each item has its entry.
 GOES_ON = "went on"

@@ -153,7 +153,7 @@ def every_second_of_many_open_searches(start):
 
 def cancelled_search_frees_its_reader(start):
     """As many long searches are begun as can be, and a quick one waits. Once the first is cancelled, the quick one is answered. Meanwhile the
-    client asks for statuses, a hundred at most with a pause between them, so that a reader that goes on is found after some seconds."""
+    client asks for statuses, a thousand at most with a pause between them, so that a reader that goes on for minutes is found."""
     begun = readers_of(start) + MORE_BEGUN
     with start() as session:
         talk = Talk(session, readers_of(start))
@@ -161,7 +161,7 @@ def cancelled_search_frees_its_reader(start):
         session.expect_quiet()
         talk.cancel(held[:1])
         talk.expect(CANCELLED % held[0])
-        for _ in range(100):
+        for _ in range(1_000):
             time.sleep(QUIET)
             talk.send(b"status\n")
             entry = talk.read()
@@ -494,12 +494,17 @@ def items_of_a_run_beside_a_long_search():
 
 
 def run_whose_searches_are_too_slow():
+    """A quick search is asked several times, as it is too slow itself where it has no processor for so long."""
     for readers in 0, 1, 2, 16:
-        script = LONG_SEARCH * 3 + b"sync\nstatus\n" + QUICK_SEARCH
+        numbers = range(4, 14)
+        script = LONG_SEARCH * 3 + b"sync\nstatus\n" + (QUICK_SEARCH + b"sync\n") * len(numbers)
         status, text = run(readers, "--search-ms", "1000", items=script)
         line = DOCUMENTS.count(b"\n") + 1
         begin = b"".join(TOO_SLOW % number for number in (1, 2, 3)) + STATUS % (line + 4, VERSION, VERSION, BYTES, VERSION, 0)
-        same("the run", (status, text), (2, begin + QUICK % 4))
+        late = {number for number in numbers if TOO_SLOW % number in text}
+        same("the run", (status, text), (2, begin + b"".join((TOO_SLOW if number in late else QUICK) % number for number in numbers)))
+        if len(late) == len(numbers):
+            raise Wrong("each quick search is too slow")
 
 
 # Scripts with slow searches beside cancels, statuses and other items.

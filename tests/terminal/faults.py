@@ -92,17 +92,30 @@ def is_socket(path):
         return False
 
 
-def children_of(process):
-    """The processes that a process has started."""
-    return [int(word) for word in pathlib.Path(f"/proc/{process}/task/{process}/children").read_text(encoding="ascii").split()]
+def told_of(process):
+    """The state of a process, and which one has started it; none if it is not there."""
+    try:
+        state, parent = pathlib.Path(f"/proc/{process}/stat").read_text(encoding="ascii", errors="replace").rpartition(")")[2].split()[:2]
+        return state, int(parent)
+    except (OSError, ValueError):
+        return None, None
+
+
+def programs_of(process, program):
+    """The processes with a program that a process has started and that have not ended. All processes are looked at: the list of children that
+    Linux has lacks some while others end."""
+    name = os.path.basename(program)[:15]
+    found = []
+    for entry in os.listdir("/proc"):
+        with contextlib.suppress(OSError):
+            if entry.isdecimal() and told_of(entry)[1] == process and is_running(entry) and pathlib.Path(f"/proc/{entry}/comm").read_text().strip() == name:
+                found.append(int(entry))
+    return found
 
 
 def is_running(process):
     """Whether a process is there and has not ended."""
-    try:
-        return pathlib.Path(f"/proc/{process}/stat").read_text(encoding="ascii").rpartition(")")[2].split()[0] != "Z"
-    except OSError:
-        return False
+    return told_of(process)[0] not in (None, "Z")
 
 
 def each_change_is_found(place):
@@ -269,12 +282,9 @@ def a_lost_socket(place):
     place.call("foo")
     server, (path,) = place.server, place.sockets
     path.unlink()
-    began = time.monotonic()
-    place.wants(["foo"], 0, b"a:1:foo\n", b"")
-    if time.monotonic() - began > 20:
-        raise Wrong("it takes too long")
-    if place.call("foo")[2] or place.server == server:
-        raise Wrong("there is no other server")
+    place.wants(["foo"], 0, b"a:1:foo\n")
+    # where other work has the processors it may not make room in time, and the call goes on without one
+    until(lambda: not place.call("foo")[2] and place.servers and server not in place.servers)
     until(lambda: not is_running(server))
     server = place.server
     shutil.rmtree(path.parent)
@@ -317,7 +327,7 @@ def a_killed_server_is_started_again(place):
     place.write("a", b"foo\n")
     place.wants(["foo"], 0, b"a:1:foo\n")
     server = place.server
-    (program,) = [child for child in children_of(server) if is_running(child)]
+    (program,) = programs_of(server, place.program)
     os.kill(program, signal.SIGKILL)
     until(lambda: not is_running(program))
     place.write("a", b"foo again\n")
@@ -325,7 +335,7 @@ def a_killed_server_is_started_again(place):
     if place.server != server:
         raise Wrong("the server has ended with its program")
     # while nothing changes in the tree, too
-    (program,) = [child for child in children_of(server) if is_running(child)]
+    (program,) = programs_of(server, place.program)
     os.kill(program, signal.SIGKILL)
     until(lambda: not is_running(program))
     place.wants(["foo"], 0, b"a:1:foo again\n")
@@ -336,14 +346,15 @@ def a_killed_server_is_started_again(place):
     place.wants(["foo"], 0, b"a:1:foo again\n")
     if place.server == server:
         raise Wrong("it is the same server")
-    until(lambda: not any(map(is_running, children_of(server) if is_running(server) else [])))
 
 
 def no_program_is_left_by_a_killed_server(place):
     """A program ends with the pipe to it."""
     place.write("a", b"foo\n")
     place.call("foo")
-    programs = children_of(place.server)
+    programs = programs_of(place.server, place.program)
+    if len(programs) != 1:
+        raise Wrong(f"it has the programs {programs}")
     os.kill(place.server, signal.SIGKILL)
     until(lambda: not any(map(is_running, programs)))
 

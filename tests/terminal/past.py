@@ -1,6 +1,7 @@
 """`--at`, `--changed` and `--diff` of tgrep, with git as the judge."""
 
 import base64
+import contextlib
 import json
 import os
 import random
@@ -10,6 +11,7 @@ import subprocess
 import tempfile
 
 from counted import Counted, Wrong
+from terminal.faults import programs_of, until
 from terminal.trees import FOO, environment_in, run, stop_all
 
 FIRST = {
@@ -136,8 +138,8 @@ def finds_in_what_has_changed(folder, environment):
     expect(run(["--changed", "foo", "../..x"], f"{top}/src", environment), (0, b"1:foo dots\n"), "a name that begins with two dots")
     # each call has had a session of its own, which has ended with it
     status = run(["--status"], top, environment)[1].decode()
-    with open("/proc/{0}/task/{0}/children".format(re.search(r"process: *(\d+)", status)[1]), encoding="ascii") as file:
-        expect((len(file.read().split()), 0), (1, 0), "the programs of the server")
+    server = int(re.search(r"process: *(\d+)", status)[1])
+    until(lambda: len(programs_of(server, environment["TSEARCH"])) == 1)
     os.unlink(f"{top}/..x")
     os.unlink(f"{top}/a.c")
     expect(run(["--changed", "-c", "foo"], top, environment), (0, b"untracked.c:1\n"), "a file that is gone")
@@ -184,10 +186,9 @@ def finds_in_a_patch(folder, environment):
     # a patch stays as it is, and is kept for the next call; the server goes on when its session is killed
     status = run(["--status"], top, environment)[1].decode()
     server = int(re.search(r"process: *(\d+)", status)[1])
-    with open(f"/proc/{server}/task/{server}/children", encoding="ascii") as file:
-        children = file.read().split()
-    for child in children:
-        os.kill(int(child), 9)
+    for program in programs_of(server, environment["TSEARCH"]):
+        with contextlib.suppress(ProcessLookupError):  # it may be one that ends
+            os.kill(program, 9)
     for _ in range(2):
         found = run(["--diff", "v1..", "gone"], top, environment)
     expect(found, (0, b"src/gone.c:1::-foo gone\n"), "after its session was killed")

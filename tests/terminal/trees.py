@@ -9,7 +9,8 @@ import time
 from built import TOP
 
 TGREP = TOP / "tgrep"
-SECONDS = 60
+# How long a call, or what follows one, may take, also where other work has the processors.
+SECONDS = 180
 FOO = b"int foo(void)\n{\n  return FOO + foo_bar;\n}\n\nfoo bar foo\n"
 PLAIN = {
     "a.txt": b"hello world\nsay foo\n\nfoo bar foo\nthe end\n",

@@ -570,11 +570,11 @@ class Ends(unittest.TestCase):
 
     def test_a_program_with_processes_of_its_own(self) -> None:
         """They hold its output open, and are killed with it."""
-        session = tsearch.Session(["bash", "-c", "echo $$ >&2; sleep 60; exit 3", "bash"], messages=lambda message: None)
+        session = tsearch.Session(["bash", "-c", "echo $$ >&2; sleep 1000; exit 3", "bash"], messages=lambda message: None)
         search = session.begin("x")
         session.kill()
-        self.assertRaises(tsearch.Ended, search.result, 2.0)
-        self.assertEqual(session.close(2.0), -signal.SIGKILL)
+        self.assertRaises(tsearch.Ended, search.result, SECONDS)
+        self.assertEqual(session.close(SECONDS), -signal.SIGKILL)
 
     def test_a_session_that_is_closed_stays_so(self) -> None:
         session = tsearch.Session()
