@@ -58,9 +58,11 @@ class Browsing(unittest.TestCase):
         self.wait(lambda: self.done() is not None)
 
     def wait(self, holds) -> None:
+        from selenium.common.exceptions import StaleElementReferenceException
         from selenium.webdriver.support.ui import WebDriverWait
 
-        WebDriverWait(self.browser, SECONDS, 0.02).until(lambda _: holds())
+        # what was on the page may be gone by the time it is looked at
+        WebDriverWait(self.browser, SECONDS, 0.02, ignored_exceptions=[StaleElementReferenceException]).until(lambda _: holds())
 
     def all(self, selector: str) -> list:
         return self.browser.find_elements("css selector", selector)

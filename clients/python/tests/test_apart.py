@@ -69,7 +69,7 @@ class Slow(unittest.IsolatedAsyncioTestCase):
             with unittest.mock.patch.object(searching, "GRACE", 20.0):
                 began = loop.time()
                 found = await searched(400, chosen)
-        self.assertLess(loop.time() - began, 15)  # all of the time ends after 20.4 seconds
+        self.assertLess(loop.time() - began, 20)  # all of the time ends after 20.4 seconds
         self.assertEqual([type(one) is Late for one in found], [at == 4 for at in range(9)])
         # each later search leaves it out of what it asks of all, and has its answer as soon as the others have theirs
         asked.clear()
@@ -82,7 +82,8 @@ class Slow(unittest.IsolatedAsyncioTestCase):
         self.assertEqual(cancelled, 5)
         # what is quick again is among the answers
         is_slow = False
-        found = await searched(60_000, chosen)
+        with unittest.mock.patch.object(searching, "_LEAST_SHARE", SECONDS):
+            found = await searched(600_000, chosen)
         self.assertFalse([one for one in found if isinstance(one, Exception)])
         # by itself it has all its time
         is_slow = True
@@ -126,10 +127,10 @@ class Slow(unittest.IsolatedAsyncioTestCase):
         find = shared.find
 
         async def slowly(query: Query) -> Answer:
-            await asyncio.sleep(100 * SECONDS if len(query.under) > 1 else 2.5)
+            await asyncio.sleep(100 * SECONDS if len(query.under) > 1 else 5)
             return await find(query)
 
-        with unittest.mock.patch.object(shared, "find", slowly), unittest.mock.patch.object(searching, "GRACE", 8.0):
+        with unittest.mock.patch.object(shared, "find", slowly), unittest.mock.patch.object(searching, "GRACE", 16.0):
             found = await Search(shared, chosen, Query.of("x", context=0, limit=101), "", 400, 1 << 20).find()
         self.assertEqual([[hit.text for hit in one.answer] for one in found], [[b"x %s" % name.encode()] for name in "abcde"])
         self.assertEqual(len(shared.apart._known), 0)

@@ -54,6 +54,9 @@ class Clusters(unittest.IsolatedAsyncioTestCase):
 
         from tsearch.cluster import Cluster
 
+        # where no worker ends none is given up for its time, however slow the machine is
+        if "kills" not in self._testMethodName:
+            self.enterContext(unittest.mock.patch("tsearch.cluster._TO_MAKE", SECONDS))
         self.client = await self.enterAsyncContext(Client(address, asynchronous=True, direct_to_workers=True))
         self.cluster = await self.enterAsyncContext(Cluster(self.client, SHARDS))
 
@@ -227,7 +230,7 @@ class Clusters(unittest.IsolatedAsyncioTestCase):
             self.assertIn("/nothing/here", str(raised.exception))
             with self.assertRaises(ShardLost):
                 await cluster.find("x", waits=False)
-        async with asyncio.timeout(2 * SECONDS), Cluster(self.client, 2, call_seconds=2) as cluster:
+        async with asyncio.timeout(2 * SECONDS), Cluster(self.client, 2, call_seconds=10) as cluster:
             for number in range(8):
                 await cluster.put(f"f{number}", "x")
             await cluster.publish()
@@ -253,7 +256,7 @@ class Clusters(unittest.IsolatedAsyncioTestCase):
 
         await self.cluster.close()
         few = "there are too few workers, 5, and 3 are missing: a shard needs one of its own"
-        with unittest.mock.patch.multiple(clusters, _TO_PLACE=6.0, _TO_SAY=2.0), warnings.catch_warnings(record=True) as said:
+        with unittest.mock.patch.multiple(clusters, _TO_PLACE=12.0, _TO_SAY=4.0), warnings.catch_warnings(record=True) as said:
             warnings.simplefilter("always")
             async with asyncio.timeout(2 * SECONDS), clusters.Cluster(self.client, SHARDS + 4) as cluster:
                 for number in range(50):
@@ -312,7 +315,8 @@ class Clusters(unittest.IsolatedAsyncioTestCase):
             with unittest.mock.patch.object(_Lane, "_send", note):
                 with stopped((await self.cluster.pids())[1]):
                     first = asyncio.create_task(self.cluster.find("first"))
-                    await asyncio.sleep(0.1)
+                    while not sent:
+                        await asyncio.sleep(0.01)
                     others = [asyncio.create_task(self.cluster.find("other")) for _ in range(3)]
                     await asyncio.sleep(0.1)
                     for task in others:

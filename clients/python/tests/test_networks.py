@@ -135,7 +135,7 @@ class Crowds(Host):
         """All with patterns that take their whole time: an ordinary visitor is answered again and again while they wait, and none of those who
         are too many waits for ever."""
         self.made.commit("main", {b"slow/%d" % number: slow_file(number) for number in range(400)})
-        server = self.serve("--proxy", "127.0.0.1", "--search-ms", "1000", "--revisions", "main", str(self.made.path))
+        server = self.serve("--proxy", "127.0.0.1", "--search-ms", "2000", "--revisions", "main", str(self.made.path))
         ending, hostile = threading.Event(), collections.Counter()
 
         def attack(number: int) -> None:

@@ -255,14 +255,19 @@ class Parts(unittest.IsolatedAsyncioTestCase):
             began.append(asyncio.Event())
             await began[-1].wait()
 
+        async def settled() -> None:
+            """Lets all go on that waits for nothing else."""
+            for _ in range(100):
+                await asyncio.sleep(0)
+
         with unittest.mock.patch.object(kept, "_look", look):
             calls = [asyncio.create_task(kept.fresh())]
-            await asyncio.sleep(0.01)
+            await settled()
             calls += [asyncio.create_task(kept.fresh()) for _ in range(3)]
-            await asyncio.sleep(0.01)
+            await settled()
             self.assertEqual(len(began), 1)
             began[0].set()
-            await asyncio.sleep(0.01)
+            await settled()
             # one look for the three that came during the first
             self.assertEqual((len(began), [call.done() for call in calls]), (2, [True, False, False, False]))
             began[1].set()

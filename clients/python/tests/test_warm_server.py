@@ -35,8 +35,8 @@ class Cancels(Place):
             self.assertEqual(refused.exception.kind, "cancelled")
         # one beside it is not cancelled by the next, but by its number
         beside = warm.send("find", pattern=SLOW, beside=True)
-        warm.ask("find", pattern="^end$")
-        warm.ask("cancel", of=beside)
+        for number in warm.send("find", pattern="^end$"), warm.send("cancel", of=beside):
+            list(warm.parts(number))
         with self.assertRaises(WarmRefused) as refused:
             list(warm.parts(beside))
         self.assertEqual(refused.exception.kind, "cancelled")
@@ -46,8 +46,10 @@ class Cancels(Place):
         self.write(slow_documents(400))
         warm, other = self.warm(), self.warm()
         other.ask("status")
-        warm.send("find", pattern=SLOW)
-        until(lambda: other.ask("status")["open"] == 1)
+        # so many that they are seen at work
+        for _ in range(20):
+            warm.send("find", pattern=SLOW, beside=True)
+        until(lambda: other.ask("status")["open"])
         warm.close()
         until(lambda: other.ask("status")["open"] == 0)
 
@@ -156,7 +158,7 @@ const {{ Tgrep }} = require({json.dumps(str(NODE))});
   other.socket.destroy();
   await asked.catch((fault) => console.log(fault.message));
   await tgrep.ask("follow");
-  tgrep.on("changes", (event) => {{ console.log(JSON.stringify(event.names)); tgrep.socket.end(); }});
+  tgrep.once("changes", (event) => {{ console.log(JSON.stringify(event.names)); tgrep.socket.end(); }});
   require("node:fs").writeFileSync("c.c", "foo\\n");
 }})();
 """
