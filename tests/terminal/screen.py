@@ -86,7 +86,7 @@ def progress_that_goes_away(place, screen):
     screen.type(f"'{TGREP}' -c 'foo 77$'; echo done $?")
     until(lambda: DONE.search(screen.shown()))
     # it may have been on the screen for a moment
-    until(lambda: re.search(rb"loading: [\d,]+ of 3,000 files", written.read_bytes()))
+    until(lambda: written.exists() and re.search(rb"loading: [\d,]+ of 3,000 files", written.read_bytes()))
     if "loading" in screen.shown() or "d27/f77:200" not in screen.shown():
         raise Wrong(screen.shown())
 

@@ -37,8 +37,6 @@ DOCUMENTS = {
 EVERYTHING = {"X-Filters": json.dumps({name: {} for name in (*DOCUMENTS, "made", "second")})}
 
 
-
-
 class Server:
     """A server that runs, and how to ask it."""
 
