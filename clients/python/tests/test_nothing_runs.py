@@ -283,10 +283,11 @@ class Strangers(Planted):
         rows += [f'[[repository]]\npath = "{tree}"\nname = "{place}"\nrevisions = ["HEAD", "*"]\n' for place, tree in made.items()]
         (self.top / "host.toml").write_text("".join(rows) + f'[[repository]]\npath = "{self.bare.path}"\nname = "HEAD"\n')
         count = len(rows) + 1
-        with serving_in(self.top, "--settings", str(self.top / "host.toml"), count=count, loaded=count - 1) as server:
+        with serving_in(self.top, "--settings", str(self.top / "host.toml"), count=count) as server:
             self.assertEqual(self.ran(), set())
             found = {row["repository"]: row for row in server.find("needle", max=200) if "lines" in row and "repository" in row}
-            self.assertEqual({name for name, row in found.items() if row["lines"]}, {*(f"files of {place}" for place in (*self.trees, "lazy")), *self.trees, "bare", "HEAD"})
+            # of the one that lacks objects those are found that are there
+            self.assertEqual({name for name, row in found.items() if row["lines"]}, {*(f"files of {place}" for place in (*self.trees, "lazy")), *made, "HEAD"})
             for place in (*self.trees, "bare"):
                 commit = found[place]["commit"]
                 self.assertEqual(server.get(f"/api/file?repository={place}&commit={commit}&name=far/b.c")[0], 200)
