@@ -1,9 +1,9 @@
 -- Versions that are made chunk by chunk.
-use Rattle.std.proofs.Common.{◌≡◌, ℕ, ◌+◌, ◌-◌, ◌<◌, not, Bool, List, [], ◌∷◌, ◌++◌, length, take, drop, get_or, sym, ◌∙◌, ap, subst, append_assoc}
+use Rattle.std.proofs.Common.{◌≡◌, ℕ, ◌+◌, ◌-◌, ◌<◌, not, Bool, List, [], ◌∷◌, ◌++◌, map, length, take, drop, get_or, sym, ◌∙◌, ap, subst, arith, append_assoc}
 use Rattle.std.specs.Prelude.{filter}
-use Rattle.std.proofs.lemmas.List.{append-nil, take_rest}
+use Rattle.std.proofs.lemmas.List.{append-nil, take_all, take_rest}
 use Rattle.names.specs.declared.content.Content.{Content}
-use Rattle.names.specs.Private.Entries.{Entry, begun_within, joined, Falls, CutsAt, OpensAt}
+use Rattle.names.specs.Private.Entries.{Entry, begun, begun_within, joined, Falls, CutsAt, OpensAt}
 use Rattle.names.proofs.PartLemmas.{joined-push, joined_more, before_open, behind_open, begun_first, begun_second, falls_chunk}
 
 pub pushed_twice : (old rest first new : List (List Entry)) (last chunk : List Entry) → old ≡ rest ++ last ∷ [] → first ≡ rest ++ last ∷ [] → new ≡ first ++ chunk ∷ []
@@ -54,15 +54,36 @@ module _ (p : Entry → Bool) (cs : List (List Entry)) (open_at place : ℕ) (ch
       ∙ ap (λ r. old ++ r) (ap (λ c. drop place c ++ joined (drop (open_at + 1) cs)) is ∙ sym (behind_open p cs open_at place chunk opens inside cut)))))
 
 -- a version with one entry between those before it and those behind it
-pub made_put : (none one two three before behind chunk entry new : List Entry) (name : List ℕ) (content : Content) → none ≡ [] → one ≡ none ++ before → new ≡ []
-    → entry ≡ new ++ (name ++ ([] ++ []), content) ∷ [] → chunk ≡ entry → two ≡ one ++ chunk → three ≡ two ++ behind → three ≡ before ++ (name, content) ∷ behind
-made_put none one two three before behind chunk entry new name content none_is one_is new_is entry_is chunk_is two_is three_is =
-    let one_before : one ≡ before = one_is ∙ ap (λ n. n ++ before) none_is in
-    let single : chunk ≡ (name, content) ∷ [] =
-    chunk_is ∙ (entry_is ∙ (ap (λ n. n ++ (name ++ ([] ++ []), content) ∷ []) new_is ∙ ap (λ n. (n, content) ∷ []) (append-nil name))) in
+pub made_put : (none one two three before behind : List Entry) (name : List ℕ) (content : Content) → none ≡ [] → one ≡ none ++ before
+    → two ≡ one ++ (name, content) ∷ [] → three ≡ two ++ behind → three ≡ before ++ (name, content) ∷ behind
+made_put none one two three before behind name content none_is one_is two_is three_is =
     three_is
-    ∙ (ap (λ t. t ++ behind) (two_is ∙ (ap (λ c. one ++ c) single ∙ ap (λ o. o ++ (name, content) ∷ []) one_before))
+    ∙ (ap (λ t. t ++ behind) (two_is ∙ ap (λ o. o ++ (name, content) ∷ []) (one_is ∙ ap (λ n. n ++ before) none_is))
     ∙ append_assoc before ((name, content) ∷ []) behind)
 
 pub made_remove : (none one two before behind : List Entry) → none ≡ [] → one ≡ none ++ before → two ≡ one ++ behind → two ≡ before ++ behind
 made_remove none one two before behind none_is one_is two_is = two_is ∙ ap (λ o. o ++ behind) (one_is ∙ ap (λ n. n ++ before) none_is)
+
+-- ---- what is drafted behind the chunks
+
+pub closed_behind : (old new : List (List Entry)) (draft left : List Entry) (view : List Entry) → joined old ++ draft ≡ view → joined new ≡ joined old ++ draft → left ≡ []
+    → joined new ++ left ≡ view
+closed_behind old new draft left view view_is closed none = ap (λ l. joined new ++ l) none ∙ (append-nil (joined new) ∙ (closed ∙ view_is))
+
+pub added_behind : (old mid new : List (List Entry)) (draft left chunk view : List Entry) → joined old ++ draft ≡ view → joined mid ≡ joined old ++ draft → left ≡ []
+    → joined new ≡ joined mid ++ chunk → joined new ++ left ≡ view ++ chunk
+added_behind old mid new draft left chunk view view_is closed none new_is =
+    ap (λ l. joined new ++ l) none ∙ (append-nil (joined new) ∙ (new_is ∙ ap (λ m. m ++ chunk) (closed ∙ view_is)))
+
+pub drafted_behind : (chunks draft new more view : List Entry) → chunks ++ draft ≡ view → new ≡ draft ++ more → chunks ++ new ≡ view ++ more
+drafted_behind chunks draft new more view view_is is =
+    ap (λ n. chunks ++ n) is ∙ (sym (append_assoc chunks draft more) ∙ ap (λ v. v ++ more) view_is)
+
+pub whole_part : (es : List Entry) (from to count : ℕ) (beginning : List ℕ) (old new chunk : List Entry) → from ≡ 0 → to ≡ length es → chunk ≡ map (begun count beginning) es
+    → new ≡ old ++ chunk → new ≡ old ++ begun_within from to count beginning es
+whole_part es from to count beginning old new chunk from_is to_is chunk_is new_is =
+    new_is
+    ∙ ap (λ c. old ++ c)
+    (chunk_is
+    ∙ sym (ap (λ f. begun_within f to count beginning es) from_is
+    ∙ (ap (λ t. begun_within 0 t count beginning es) to_is ∙ ap (map (begun count beginning)) (take_all (length es) es (omega arith)))))

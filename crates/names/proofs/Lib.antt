@@ -10,3 +10,6 @@ pub mod BuilderLemmas
 pub mod OverLemmas
 pub mod RestLemmas
 pub mod NamedLemmas
+pub mod PutLemmas
+pub mod NumberLemmas
+pub mod LongLemmas

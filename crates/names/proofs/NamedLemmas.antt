@@ -7,17 +7,13 @@ use Rattle.names.specs.Private.Entries.{Entry, joined}
 use Rattle.names.proofs.PartLemmas.{joined-push}
 
 pub entries_next : (before now after : List Named) (n : Named) (es : List Entry) (at : ℕ) → at < length es → entries_of now ≡ entries_of before ++ take at es
-    → after ≡ now ++ n ∷ [] → ((d : Entry) → (get_or es at d).0 ≡ n.beginning.now ++ n.rest.now) → ((d : Entry) → n.content.now ≡ (get_or es at d).1)
-    → entries_of after ≡ entries_of before ++ take (at + 1) es
-entries_next before now after n es at inside so_far is name content =
+    → after ≡ now ++ n ∷ [] → get_or es at (entry_of n) ≡ entry_of n → entries_of after ≡ entries_of before ++ take (at + 1) es
+entries_next before now after n es at inside so_far is same =
     ap entries_of is
     ∙ (map_push entry_of now n
     ∙ (ap (λ xs. xs ++ entry_of n ∷ []) so_far
     ∙ (append_assoc (entries_of before) (take at es) (entry_of n ∷ [])
     ∙ ap (λ xs. entries_of before ++ xs) (ap (λ e. take at es ++ e ∷ []) (sym same) ∙ sym (take_more es at (entry_of n) inside)))))
-  where
-    same : get_or es at (entry_of n) ≡ entry_of n
-    same = λ i. (name (entry_of n) i, sym (content (entry_of n)) i)
 
 pub entries_joined : (now after : List Named) (chunks : List (List Entry)) (at : ℕ) (chunk : List Entry) → at < length chunks
     → chunk ≡ get_or chunks at chunk → entries_of now ≡ joined (take at chunks) → entries_of after ≡ entries_of now ++ chunk

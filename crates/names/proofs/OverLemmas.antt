@@ -3,7 +3,7 @@ use Rattle.std.proofs.Common.{◌≡◌, ℕ, ◌&&◌, ◌||◌, not, Bool, tru
 use Rattle.std.specs.Prelude.{filter}
 use Rattle.std.specs.Ordering.{nat_cmp, is_lt, is_le, ordering_then}
 use Rattle.std.specs.Cmp.Lexicographic.{slice_cmp, nat_list_cmp_total}
-use Rattle.std.specs.FinMap.{entries, entries-insert, same_entries_map, same_map, from_entries, from_sorted, insert, get-entries, get-from_entries, put, is_sorted}
+use Rattle.std.specs.FinMap.{entries, entries-insert, same_entries_map, same_map, from_entries, from_sorted, get-entries, get-from_entries, put, is_sorted}
 use Rattle.std.specs.FinMap.Entries.{below_all, is_sorted-put}
 use Rattle.std.specs.declared.cmp.Ordering.{Ordering}
 use Rattle.std.specs.declared.cmp.Ordering.TheVariants.{Less, Equal, Greater}
@@ -12,7 +12,6 @@ use Rattle.std.proofs.lemmas.List.{append-nil}
 use Rattle.std.proofs.lemmas.List.Elements.{filter-append}
 use Rattle.prefixes.specs.Under.{begins_with}
 use Rattle.prefixes.proofs.UnderLemmas.{same_first}
-use Rattle.names.specs.declared.content.Content.{Content}
 use Rattle.names.specs.declared.edge.Edge.TheVariants.{Before, After, AfterUnder}
 use Rattle.names.specs.Contents.{Contents, copies}
 use Rattle.names.specs.Private.Entries.{Entry, begun, passes, lies_behind, AllPass, NonePass, AllBehind, laid_over}
@@ -157,11 +156,11 @@ over_rises (c ∷ cs) es one other =
     ∙ is_true (is_sorted (slice_cmp nat_cmp) (put (slice_cmp nat_cmp) c.0 c.1 (laid_over cs es)))
     (is_sorted-put (slice_cmp nat_cmp) nat_list_cmp_total c.0 c.1 (laid_over cs es) (truth (is_sorted (slice_cmp nat_cmp) (laid_over cs es)) rise))
 
-own_entries : (m : Contents) → from_entries (entries m) ≡ m
+pub own_entries : (m : Contents) → from_entries (entries m) ≡ m
 own_entries m =
     same_map nat_list_cmp_total same_name (from_entries (entries m)) m (λ q. get-from_entries nat_list_cmp_total (entries m) q ∙ sym (get-entries m q))
 
-entries_over : (cs es : List Entry) (m : Contents) → entries m ≡ es → is_sorted (slice_cmp nat_cmp) cs ≡ true → is_sorted (slice_cmp nat_cmp) es ≡ true
+pub entries_over : (cs es : List Entry) (m : Contents) → entries m ≡ es → is_sorted (slice_cmp nat_cmp) cs ≡ true → is_sorted (slice_cmp nat_cmp) es ≡ true
     → entries (from_entries {R = slice_cmp nat_cmp} (cs ++ es)) ≡ laid_over cs es
 entries_over [] es m is one other = ap (λ xs. entries (from_entries {R = slice_cmp nat_cmp} xs)) (sym is) ∙ (ap entries (own_entries m) ∙ is)
 entries_over (c ∷ cs) es m is one other =
@@ -200,7 +199,7 @@ module _ (from to : List ℕ) where
       ap (λ t. t && is_sorted (slice_cmp nat_cmp) (map (begun (length from) to) es)) (same_below e es all.0 all.1)
       ∙ ap (λ t. below_all (slice_cmp nat_cmp) e.0 es && t) (same_rise es all.1)
 
-  is_under : (e : Entry) → under e ≡ (lies_behind Before from e && passes AfterUnder from e)
+  pub is_under : (e : Entry) → under e ≡ (lies_behind Before from e && passes AfterUnder from e)
   is_under e = go (passes Before from e) (under e) (apart_under from e)
     where
       go : (u t : Bool) → (u || not (u || t)) ≡ not t → t ≡ (not u && (u || t))

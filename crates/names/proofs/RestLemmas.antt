@@ -149,7 +149,7 @@ module _ (p : Entry → Bool) (cs : List (List Entry)) (open_at at place to : �
   unpassing = ⊎_elim (λ q. others_low q.1) (λ q. others_high (omega (arith, q.1))) (leb_tells at place)
 
   -- where the cut lies inside the chunk, nothing later passes
-  none_later_chunk : to < length chunk → NonePass p after_it
+  pub none_later_chunk : to < length chunk → NonePass p (joined (drop (open_at + 1) cs))
   none_later_chunk inner =
       let whole : joined cs ≡ joined (take open_at cs) ++ (chunk ++ after_it) = joined_at cs open_at chunk inside ∙ ap (λ c. joined (take open_at cs) ++ (c ++ after_it)) (sym is) in
       let own : chunk ++ after_it ≡ take place chunk ++ (drop place chunk ++ after_it) =

@@ -1,16 +1,21 @@
 //! A version that is being made, chunk by chunk.
 
-ghost use Rattle.std.specs.Prelude.{◌≡◌, ◌<◌, ◌≤◌, ◌++◌, List, [], true, length, map, filter, IfOk, OnOk};
+ghost use Rattle.std.specs.Prelude.{◌≡◌, ◌<◌, ◌≤◌, [], ◌∷◌, ◌++◌, List, true, length, map, filter, IfOk, IfSome, OnOk};
 ghost use Rattle.std.specs.Ordering.{nat_cmp};
 ghost use Rattle.std.specs.Cmp.Lexicographic.{slice_cmp};
 ghost use Rattle.std.specs.FinMap.{is_sorted};
+ghost use Rattle.names.specs.Contents.{entry_put};
 ghost use Rattle.names.specs.Private.Entries.{Entry, begun, begun_within, joined, laid_over, passes, lies_behind, Falls, OpensAt};
 
 use crate::chunk::Chunk;
+use crate::content::Content;
 use crate::draft::Draft;
 use crate::edge::Edge;
+use crate::puts::Put;
 use crate::rest::Rest;
 use std::alloc::{AllocError, Global};
+use std::marker::Model;
+use std::mem::replace;
 
 /// How many names a chunk has at most.
 pub(crate) const MOST: usize = 128;
@@ -18,42 +23,70 @@ pub(crate) const MOST: usize = 128;
 /// Neighbours with at most so many names together become one.
 const FEW: usize = 63;
 
-/// The chunks of a version that is being made.
+/// A version that is being made.
+///
+/// Contracts see the list of the entries that it has so far.
 #[derive(Drop)]
 pub(crate) struct Builder {
-    pub(crate) chunks: Vec<Chunk>,
+    chunks: Vec<Chunk>,
+    /// What comes behind the chunks, and is to become a chunk.
+    draft: Draft,
+}
+
+impl Model for Builder {
+    ghost use Rattle.std.specs.Prelude.{List, ◌++◌};
+    ghost use Rattle.names.specs.Private.Entries.{Entry, joined};
+
+    ghost Value = { List Entry };
+
+    ghost view = { λ b. joined b.chunks.items ++ b.draft };
 }
 
 impl Builder {
-    /// No chunks.
+    /// No entries.
     pub(crate) fn new(alloc: Global) -> Builder
-        ensures { joined result.chunks.items ≡ [] }
+        ensures { result ≡ [] }
     {
         Builder {
             chunks: Vec::new(alloc),
+            draft: Draft::new(alloc),
         }
     }
 
-    /// Adds the entries of a chunk. It becomes one with the last chunk if they have at most so many names together.
-    pub(crate) fn add(&mut self, chunk: Chunk, most: usize) -> Result<(), AllocError>
-        ensures { OnOk result (joined self.new.chunks.items ≡ joined self.old.chunks.items ++ chunk) }
+    /// The chunks of the entries. An `Err` means that memory ran out, or that a body has too many handles.
+    pub(crate) fn closed(self) -> Result<Vec<Chunk>, AllocError>
+        ensures { IfOk result (λ chunks. joined chunks.items ≡ self) }
     {
+        let Builder {
+            mut chunks,
+            mut draft,
+        } = self;
+        close(&mut chunks, &mut draft)?;
+        Ok(chunks)
+    }
+
+    /// Adds the entries of a chunk.
+    pub(crate) fn add(&mut self, chunk: Chunk) -> Result<(), AllocError>
+        ensures { OnOk result (self.new ≡ self.old ++ chunk) }
+    {
+        close(&mut self.chunks, &mut self.draft)?;
+        push(&mut self.chunks, chunk, FEW)
+    }
+
+    /// Adds one entry.
+    pub(crate) fn add_entry(&mut self, name: &[u8], content: Content) -> Result<(), AllocError>
+        ensures { OnOk result (self.new ≡ self.old ++ (name.now, content) ∷ []) }
+    {
+        self.make_room(1)?;
         let alloc = *self.chunks.allocator();
-        let Some(last) = self.chunks.pop() else {
-            self.chunks.push(chunk)?;
-            return Ok(());
-        };
-        if last.len().saturating_add(chunk.len()) > most {
-            self.chunks.push(last)?;
-            self.chunks.push(chunk)?;
-            return Ok(());
-        }
-        self.chunks.push(both(alloc, &last, &chunk)?)?;
+        let draft = replace(&mut self.draft, Draft::new(alloc));
+        let draft = draft.with(name, &[], &[], content)?;
+        self.draft = draft;
         Ok(())
     }
 
     /// Adds the entries of a chunk from one place on and before another one, with this text in place of so many first bytes of
-    /// their names.
+    /// their names. A whole chunk is shared if it can be.
     pub(crate) fn add_part(
         &mut self,
         chunk: &Chunk,
@@ -64,15 +97,54 @@ impl Builder {
     ) -> Result<(), AllocError>
         requires order { from ≤ to }
         requires inside { to ≤ length chunk.now }
-        ensures { OnOk result (joined self.new.chunks.items ≡ joined self.old.chunks.items ++ begun_within from to count beginning.now chunk.now) }
+        ensures { OnOk result (self.new ≡ self.old ++ begun_within from to count beginning.now chunk.now) }
     {
         if from == to {
             return Ok(());
         }
+        if from == 0 && to == chunk.len() {
+            if let Some(whole) = whole(self.allocator(), chunk, count, beginning)? {
+                return self.add(whole);
+            }
+        }
+        self.append(chunk, from, to, count, beginning)
+    }
+
+    /// The same, without sharing.
+    fn append(
+        &mut self,
+        chunk: &Chunk,
+        from: usize,
+        to: usize,
+        count: usize,
+        beginning: &[u8],
+    ) -> Result<(), AllocError>
+        requires order { from ≤ to }
+        requires inside { to ≤ length chunk.now }
+        ensures { OnOk result (self.new ≡ self.old ++ begun_within from to count beginning.now chunk.now) }
+    {
+        self.make_room(to - from)?;
         let alloc = *self.chunks.allocator();
-        let part = part(alloc, chunk, from, to, count, beginning)?;
-        let is_whole = from == 0 && to == chunk.len();
-        self.add(part, if is_whole { FEW } else { MOST })
+        let draft = replace(&mut self.draft, Draft::new(alloc));
+        let draft = draft.with_part(chunk, from, to, count, beginning)?;
+        self.draft = draft;
+        Ok(())
+    }
+
+    /// Where its memory comes from.
+    fn allocator(&self) -> Global {
+        *self.chunks.allocator()
+    }
+
+    /// Makes the draft a chunk if it would have too many names with so many more.
+    fn make_room(&mut self, more: usize) -> Result<(), AllocError>
+        ensures { OnOk result (self.new ≡ self.old) }
+    {
+        if self.draft.len().saturating_add(more) <= MOST {
+            return Ok(());
+        }
+        close(&mut self.chunks, &mut self.draft)?;
+        Ok(())
     }
 
     /// Adds the entries of these chunks that lie before the edge at a text.
@@ -83,7 +155,7 @@ impl Builder {
         text: &[u8],
     ) -> Result<(), AllocError>
         requires { Falls (passes edge text.now) (joined chunks.now) }
-        ensures { OnOk result (joined self.new.chunks.items ≡ joined self.old.chunks.items ++ filter (passes edge text.now) (joined chunks.now)) }
+        ensures { OnOk result (self.new ≡ self.old ++ filter (passes edge text.now) (joined chunks.now)) }
     {
         let open = open_at(chunks, edge, text);
         self.add_all(&chunks[..open])?;
@@ -102,7 +174,7 @@ impl Builder {
         text: &[u8],
     ) -> Result<(), AllocError>
         requires { Falls (passes edge text.now) (joined chunks.now) }
-        ensures { OnOk result (joined self.new.chunks.items ≡ joined self.old.chunks.items ++ filter (lies_behind edge text.now) (joined chunks.now)) }
+        ensures { OnOk result (self.new ≡ self.old ++ filter (lies_behind edge text.now) (joined chunks.now)) }
     {
         let open = open_at(chunks, edge, text);
         if open == chunks.len() {
@@ -123,7 +195,7 @@ impl Builder {
         count: usize,
         beginning: &[u8],
     ) -> Result<Rest<'a>, AllocError>
-        ensures added { OnOk result (joined self.new.chunks.items ≡ joined self.old.chunks.items ++ map (begun count beginning.now) (filter (passes edge text.now) rest.entry)) }
+        ensures added { OnOk result (self.new ≡ self.old ++ map (begun count beginning.now) (filter (passes edge text.now) rest.entry)) }
         ensures left { IfOk result (λ left. left ≡ filter (lies_behind edge text.now) rest.entry) }
     {
         let Rest {
@@ -150,7 +222,7 @@ impl Builder {
 
     /// Adds what is left.
     pub(crate) fn add_rest(&mut self, rest: Rest) -> Result<(), AllocError>
-        ensures { OnOk result (joined self.new.chunks.items ≡ joined self.old.chunks.items ++ rest.entry) }
+        ensures { OnOk result (self.new ≡ self.old ++ rest.entry) }
     {
         let Rest { chunks, chunk, at } = rest;
         if chunk >= chunks.len() {
@@ -169,9 +241,9 @@ impl Builder {
         rest: Rest<'a>,
     ) -> Result<Rest<'a>, AllocError>
         requires { is_sorted (slice_cmp nat_cmp) chunk.now ≡ true }
-        ensures { IfOk result (λ left. (later : List Entry) → joined self.new.chunks.items ++ laid_over later left ≡ joined self.old.chunks.items ++ laid_over (chunk.now ++ later) rest.entry) }
+        ensures { IfOk result (λ left. (later : List Entry) → self.new ++ laid_over later left ≡ self.old ++ laid_over (chunk.now ++ later) rest.entry) }
     {
-        let alloc = *self.chunks.allocator();
+        let alloc = self.allocator();
         let mut rest = rest;
         let mut at = 0;
         while at < chunk.len() {
@@ -185,13 +257,28 @@ impl Builder {
         Ok(rest)
     }
 
+    /// Adds those of what is left that lie before a put's name, and then its entry. Returns what is left then, without the entry that
+    /// had the name.
+    pub(crate) fn add_put<'a>(
+        &mut self,
+        rest: Rest<'a>,
+        put: &Put<'_>,
+    ) -> Result<Rest<'a>, AllocError>
+        ensures { IfOk result (λ left. (later : List Entry) → self.new ++ laid_over later left ≡ self.old ++ laid_over (entry_put put.now ∷ later) rest.entry) }
+    {
+        let rest = self.add_until(rest, Edge::Before, put.name, 0, &[])?;
+        let rest = rest.without(put.name);
+        self.add_entry(put.name, put.content()?)?;
+        Ok(rest)
+    }
+
     /// Adds the entries of these chunks.
     pub(crate) fn add_all(&mut self, chunks: &[Chunk]) -> Result<(), AllocError>
-        ensures { OnOk result (joined self.new.chunks.items ≡ joined self.old.chunks.items ++ joined chunks.now) }
+        ensures { OnOk result (self.new ≡ self.old ++ joined chunks.now) }
     {
         for chunk in chunks {
             let own = chunk.share()?;
-            self.add(own, FEW)?;
+            self.add(own)?;
         }
         Ok(())
     }
@@ -206,30 +293,50 @@ fn both(alloc: Global, one: &Chunk, other: &Chunk) -> Result<Chunk, AllocError>
     Chunk::of(alloc, draft)
 }
 
-/// The entries of a chunk from one place on and before another one, with this text in place of so many first bytes of their
-/// names. They share what they can with the chunk.
-fn part(
+/// Adds the entries of a chunk to these chunks. It becomes one with the last of them if they have at most so many names together.
+fn push(chunks: &mut Vec<Chunk>, chunk: Chunk, most: usize) -> Result<(), AllocError>
+    ensures { OnOk result (joined chunks.new.items ≡ joined chunks.old.items ++ chunk) }
+{
+    let alloc = *chunks.allocator();
+    let Some(last) = chunks.pop() else {
+        chunks.push(chunk)?;
+        return Ok(());
+    };
+    if last.len().saturating_add(chunk.len()) > most {
+        chunks.push(last)?;
+        chunks.push(chunk)?;
+        return Ok(());
+    }
+    chunks.push(both(alloc, &last, &chunk)?)?;
+    Ok(())
+}
+
+/// Adds what is drafted to these chunks, so that nothing is drafted any more.
+fn close(chunks: &mut Vec<Chunk>, draft: &mut Draft) -> Result<(), AllocError>
+    ensures closed { OnOk result (joined chunks.new.items ≡ joined chunks.old.items ++ draft.old) }
+    ensures none { OnOk result (draft.new ≡ []) }
+{
+    if draft.len() == 0 {
+        return Ok(());
+    }
+    let alloc = *chunks.allocator();
+    let drafted = replace(draft, Draft::new(alloc));
+    push(chunks, Chunk::of(alloc, drafted)?, MOST)
+}
+
+/// All entries of a chunk, with this text in place of so many first bytes of their names, if they can share what the chunk has.
+fn whole(
     alloc: Global,
     chunk: &Chunk,
-    from: usize,
-    to: usize,
     count: usize,
     beginning: &[u8],
-) -> Result<Chunk, AllocError>
-    requires order { from < to }
-    requires inside { to ≤ length chunk.now }
-    ensures { IfOk result (λ part. part ≡ begun_within from to count beginning.now chunk.now) }
+) -> Result<Option<Chunk>, AllocError>
+    ensures { IfOk result (λ found. IfSome found (λ whole. whole ≡ map (begun count beginning.now) chunk.now)) }
 {
-    if from == 0 && to == chunk.len() {
-        if count == 0 && beginning.is_empty() {
-            return chunk.share();
-        }
-        if let Some(begun) = chunk.begun(alloc, count, beginning)? {
-            return Ok(begun);
-        }
+    if count == 0 && beginning.is_empty() {
+        return Ok(Some(chunk.share()?));
     }
-    let draft = Draft::new(alloc).with_part(chunk, from, to, count, beginning)?;
-    Chunk::of(alloc, draft)
+    chunk.begun(alloc, count, beginning)
 }
 
 /// Which of these chunks is the first one whose last name does not lie before the edge at a text.
@@ -254,7 +361,7 @@ pub(crate) fn open_at(chunks: &[Chunk], edge: Edge, text: &[u8]) -> usize
 pub(crate) fn over(alloc: Global, chunks: &[Chunk], others: &[Chunk]) -> Result<Builder, AllocError>
     requires rise { is_sorted (slice_cmp nat_cmp) (joined chunks.now) ≡ true }
     requires others_rise { is_sorted (slice_cmp nat_cmp) (joined others.now) ≡ true }
-    ensures { IfOk result (λ made. joined made.chunks.items ≡ laid_over (joined chunks.now) (joined others.now)) }
+    ensures { IfOk result (λ made. made ≡ laid_over (joined chunks.now) (joined others.now)) }
 {
     let mut made = Builder::new(alloc);
     let mut rest = Rest::from_chunk(others, 0);

@@ -1,16 +1,19 @@
 //! Some names and their contents, which never change.
 
-ghost use Rattle.std.specs.Prelude.{◌≡◌, ◌<◌, ◌≤◌, ◌++◌, map, length, get_or, drop, IfOk, OnOk, IfSome};
+ghost use Rattle.std.specs.Prelude.{◌≡◌, ◌<◌, ◌≤◌, ◌++◌, map, filter, length, get_or, take, drop, IfOk, OnOk, IfSome};
+ghost use Rattle.std.specs.List.{list_any};
+ghost use Rattle.std.specs.List.Sorted.{IsStrictlyIncreasing};
 ghost use Rattle.std.specs.Ordering.{nat_cmp};
 ghost use Rattle.std.specs.Cmp.Lexicographic.{slice_cmp};
 ghost use Rattle.std.specs.Arc.{arc_slice_items};
 ghost use Rattle.prefixes.specs.Under.{begins_with};
-ghost use Rattle.names.specs.Contents.{entries_of};
-ghost use Rattle.names.specs.Private.Entries.{Entry, begun, entries_bytes, with_prefix, is_before, passes, Falls, CutsAt, IsLastPass};
+ghost use Rattle.names.specs.Contents.{entry_of, entries_of, contents_of, is_since, has_one_of, is_long_copy};
+ghost use Rattle.names.specs.Private.Entries.{Entry, begun, entries_bytes, with_prefix, is_before, passes, Falls, CutsAt, IsLastPass, LieWithin};
 
 use crate::content::{Content, Named};
 use crate::draft::Draft;
 use crate::edge::Edge;
+use crate::numbers::{between, is_among};
 use crate::texts::Texts;
 use std::alloc::{AllocError, Global};
 use std::cmp::Ordering;
@@ -25,6 +28,10 @@ struct Body {
     contents: Vec<Content>,
     /// The total length of the bodies.
     bytes: u64,
+    /// The least number of a content.
+    oldest: u32,
+    /// The greatest number of a content.
+    newest: u32,
 }
 
 /// Some entries, at least one. It costs two handles to have it twice, and a new prefix more to have it under other names.
@@ -41,13 +48,13 @@ impl Model for Chunk {
     ghost use Rattle.std.specs.Prelude.{List, ℕ};
     ghost use Rattle.std.specs.Arc.{arc_value, arc_slice_items};
     ghost use Rattle.names.specs.declared.content.Content.{Content};
-    ghost use Rattle.names.specs.Private.Entries.{Entry, pairs, with_prefix, IsChunk};
+    ghost use Rattle.names.specs.Private.Entries.{Entry, pairs, with_prefix, IsBody};
 
     ghost Value = { List Entry };
 
     ghost view = { λ c. pairs (with_prefix (arc_slice_items c.prefix) (arc_value c.body).suffixes) (arc_value c.body).contents.items };
 
-    ghost invariant = { λ c. IsChunk (with_prefix (arc_slice_items c.prefix) (arc_value c.body).suffixes) (arc_value c.body).contents.items (arc_value c.body).bytes };
+    ghost invariant = { λ c. IsBody (with_prefix (arc_slice_items c.prefix) (arc_value c.body).suffixes) (arc_value c.body).contents.items (arc_value c.body).bytes (arc_value c.body).oldest (arc_value c.body).newest };
 }
 
 impl Chunk {
@@ -62,10 +69,13 @@ impl Chunk {
             bytes,
         } = draft;
         let (prefix, suffixes) = shortened(alloc, names)?;
+        let (oldest, newest) = range_of(&contents);
         let body = Body {
             suffixes,
             contents,
             bytes,
+            oldest,
+            newest,
         };
         let body = Arc::new(alloc, body)?;
         Ok(Chunk { prefix, body })
@@ -151,20 +161,112 @@ impl Chunk {
         &self.body.contents[at]
     }
 
+    /// The name and the content at a place.
+    fn named(&self, at: usize) -> Named<'_>
+        requires { at < length self.now }
+        ensures { (d : Entry) → get_or self.now at d ≡ entry_of result }
+    {
+        let (beginning, rest) = self.name(at);
+        Named {
+            beginning,
+            rest,
+            content: self.content(at),
+        }
+    }
+
     /// Adds the entries. An `Err` means that memory ran out.
     pub(crate) fn push_entries<'a>(&'a self, found: &mut Vec<Named<'a>>) -> Result<(), AllocError>
         ensures { OnOk result (entries_of found.new.items ≡ entries_of found.old.items ++ self.now) }
     {
         for at in 0..self.len() {
-            let (beginning, rest) = self.name(at);
-            let content = self.content(at);
-            found.push(Named {
-                beginning,
-                rest,
-                content,
-            })?;
+            let named = self.named(at);
+            found.push(named)?;
         }
         Ok(())
+    }
+
+    /// Between which numbers those of the contents lie.
+    fn range(&self) -> (u32, u32)
+        ensures { LieWithin result.0 result.1 (map (λ e. e.1) self.now) }
+    {
+        (self.body.oldest, self.body.newest)
+    }
+
+    /// Adds the contents whose numbers are at least this. An `Err` means that memory ran out.
+    pub(crate) fn push_since<'a>(
+        &'a self,
+        number: u32,
+        found: &mut Vec<&'a Content>,
+    ) -> Result<(), AllocError>
+        ensures { OnOk result (contents_of found.new.items ≡ contents_of found.old.items ++ filter (is_since number) (map (λ e. e.1) self.now)) }
+    {
+        let (_, newest) = self.range();
+        if newest < number {
+            return Ok(());
+        }
+        for at in 0..self.len() {
+            let content = self.content(at);
+            if content.number < number {
+                continue;
+            }
+            found.push(content)?;
+        }
+        Ok(())
+    }
+
+    /// Those of the numbers, which rise, that contents of the chunk may have.
+    pub(crate) fn near<'a>(&self, numbers: &'a [u32]) -> &'a [u32]
+        requires { IsStrictlyIncreasing numbers.now }
+        ensures rising { IsStrictlyIncreasing result.now }
+        ensures same { filter (has_one_of result.now) self.now ≡ filter (has_one_of numbers.now) self.now }
+    {
+        let (oldest, newest) = self.range();
+        between(numbers, oldest, newest)
+    }
+
+    /// Adds the entries whose contents have one of these numbers, which rise. An `Err` means that memory ran out.
+    pub(crate) fn push_chosen<'a>(
+        &'a self,
+        numbers: &[u32],
+        found: &mut Vec<Named<'a>>,
+    ) -> Result<(), AllocError>
+        requires { IsStrictlyIncreasing numbers.now }
+        ensures { OnOk result (entries_of found.new.items ≡ entries_of found.old.items ++ filter (has_one_of numbers.now) self.now) }
+    {
+        if numbers.is_empty() {
+            return Ok(());
+        }
+        for at in 0..self.len() {
+            let named = self.named(at);
+            if !is_among(numbers, named.content.number) {
+                continue;
+            }
+            found.push(named)?;
+        }
+        Ok(())
+    }
+
+    /// Whether some name from one place on and before another one has more than `most` bytes with `to` in place of `from`, with which
+    /// all these begin.
+    pub(crate) fn has_long_copy(
+        &self,
+        at: usize,
+        end: usize,
+        from: &[u8],
+        to: &[u8],
+        most: usize,
+    ) -> bool
+        requires order { at ≤ end }
+        requires inside { end ≤ length self.now }
+        ensures { result ≡ list_any (λ e. is_long_copy most from.now to.now e.0) (drop at (take end self.now)) }
+    {
+        for place in at..end {
+            let (prefix, suffix) = self.name(place);
+            if is_long_copy(prefix, suffix, from, to, most) {
+                return true;
+            }
+        }
+        false
     }
 
     /// How the name at a place is ordered beside a text.
@@ -223,6 +325,19 @@ impl Chunk {
     }
 }
 
+/// The least and the greatest number of these contents, if there are some.
+fn range_of(contents: &[Content]) -> (u32, u32)
+    ensures { LieWithin result.0 result.1 contents.now }
+{
+    let mut oldest = u32::MAX;
+    let mut newest: u32 = 0;
+    for content in contents {
+        oldest = oldest.min(content.number);
+        newest = newest.max(content.number);
+    }
+    (oldest, newest)
+}
+
 /// How the name of these two parts is ordered beside a text.
 fn compared(prefix: &[u8], suffix: &[u8], text: &[u8]) -> Ordering
     ensures { result ≡ slice_cmp nat_cmp (prefix.now ++ suffix.now) text.now }
@@ -242,6 +357,17 @@ fn begin_with(prefix: &[u8], suffix: &[u8], text: &[u8]) -> bool
         return prefix.starts_with(text);
     }
     text.starts_with(prefix) && suffix.starts_with(&text[prefix.len()..])
+}
+
+/// Whether the name of these two parts has more than `most` bytes with `to` in place of `from`.
+fn is_long_copy(prefix: &[u8], suffix: &[u8], from: &[u8], to: &[u8], most: usize) -> bool
+    ensures { result ≡ is_long_copy most from.now to.now (prefix.now ++ suffix.now) }
+{
+    let rest = (prefix.len() + suffix.len()).saturating_sub(from.len());
+    if to.len() > most {
+        return true;
+    }
+    rest > most - to.len()
 }
 
 /// A text, and behind it another one without so many first bytes.

@@ -44,6 +44,13 @@ impl Draft {
         }
     }
 
+    /// How many entries there are.
+    pub(crate) fn len(&self) -> usize
+        ensures { result ≡ length self.now }
+    {
+        self.contents.len()
+    }
+
     /// The entries with one more behind them, whose name is given in three parts. An `Err` means that memory ran out.
     pub(crate) fn with(
         self,

@@ -7,8 +7,11 @@ mod content;
 mod draft;
 mod edge;
 mod names;
+mod numbers;
+mod puts;
 mod rest;
 mod texts;
 
 pub use content::{Content, Named};
 pub use names::Names;
+pub use puts::Put;

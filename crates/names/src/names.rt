@@ -1,22 +1,31 @@
 //! A map from names to contents.
 
-ghost use Rattle.std.specs.Prelude.{◌≡◌, ◌++◌, true, not, map, option_map, IfOk};
+ghost use Rattle.std.specs.Prelude.{◌≡◌, ◌++◌, true, not, map, option_map, IfOk, IfErr};
 ghost use Rattle.std.specs.FinMap.{empty, entries, find, get, insert, remove, retain_keys, keys, len, from_entries, from_sorted, is_sorted};
 ghost use Rattle.std.specs.List.{list_any};
 ghost use Rattle.std.specs.Ordering.{nat_cmp};
 ghost use Rattle.std.specs.Cmp.Lexicographic.{slice_cmp};
 ghost use Rattle.prefixes.specs.Under.{begins_with};
-ghost use Rattle.names.specs.Contents.{body_bytes, copies, entries_of};
+ghost use Rattle.std.specs.List.Sorted.{IsStrictlyIncreasing};
+ghost use Rattle.watch.specs.CalledOff.{IsCalledOffOnlyIf};
+ghost use Rattle.names.specs.Contents.{body_bytes, chosen, contents_of, copies, entries_of, has_long_copy, since, with_all};
 ghost use Rattle.names.specs.Private.Entries.{joined};
 
-use crate::builder::{Builder, MOST, open_at, over};
+use crate::builder::{Builder, open_at, over};
 use crate::chunk::Chunk;
 use crate::content::{Content, Named};
-use crate::draft::Draft;
 use crate::edge::Edge;
+use crate::puts::{Put, in_order};
 use crate::rest::Rest;
 use std::alloc::{AllocError, Global};
 use std::marker::Model;
+use watch::{Pace, Unanswered, Watch};
+
+/// The watch is asked each time so many names were looked at.
+const PACE: usize = 1_024;
+
+/// As how many names that are looked at a chunk counts that is passed by.
+const PASSED: usize = 16;
 
 /// A map from names to contents. It never changes: what would change it makes another one, which shares all chunks in which both
 /// are the same.
@@ -94,6 +103,14 @@ impl Names {
         is_under(&self.chunks, prefix)
     }
 
+    /// Whether a copy's name would have more than `most` bytes: some name that begins with `from`, with `to` in its place. Only these
+    /// names are looked at. This takes no memory.
+    pub fn has_long_copy(&self, from: &[u8], to: &[u8], most: usize) -> bool
+        ensures { result ≡ has_long_copy most from.now to.now self.now }
+    {
+        Rest::behind(&self.chunks, Edge::Before, from).has_long_copy(from, to, most)
+    }
+
     /// All names with their contents, in order. An `Err` means that memory ran out.
     pub fn entries(&self) -> Result<Vec<Named<'_>>, AllocError>
         ensures { IfOk result (λ found. entries_of found.items ≡ entries self.now) }
@@ -105,17 +122,71 @@ impl Names {
         Ok(found)
     }
 
+    /// The contents whose numbers are at least this, in the order of their names. Chunks of names with lower numbers are passed by. An
+    /// `Err` means that memory ran out.
+    pub fn since(&self, number: u32) -> Result<Vec<&Content>, AllocError>
+        ensures { IfOk result (λ found. contents_of found.items ≡ since number self.now) }
+    {
+        let mut found = Vec::new(*self.chunks.allocator());
+        for chunk in &self.chunks {
+            chunk.push_since(number, &mut found)?;
+        }
+        Ok(found)
+    }
+
+    /// The names whose contents have one of these numbers, which rise, in order. Chunks of names with other numbers are passed by. An
+    /// `Err` means that memory ran out, or that `watch` called it off: it is asked at each 1,024 names that are looked at, or each 64
+    /// chunks that are passed by.
+    pub fn chosen<W: Watch>(
+        &self,
+        alloc: Global,
+        numbers: &[u32],
+        watch: &mut W,
+    ) -> Result<Vec<Named<'_>>, Unanswered>
+        requires { IsStrictlyIncreasing numbers.now }
+        ensures found { IfOk result (λ found. entries_of found.items ≡ chosen numbers.now self.now) }
+        ensures called_off { IfErr result (IsCalledOffOnlyIf (W.has_said_no watch.new)) }
+    {
+        let mut pace = Pace::each(PACE);
+        let mut found = Vec::new(alloc);
+        for chunk in &self.chunks {
+            let near = chunk.near(numbers);
+            let steps = if near.is_empty() {
+                PASSED
+            } else {
+                chunk.len()
+            };
+            pace.look_after(steps, watch)?;
+            chunk.push_chosen(near, &mut found)?;
+        }
+        Ok(found)
+    }
+
     /// The map with this content under a name, in place of the one that it had. An `Err` means that memory ran out, or that a
     /// chunk or a body has too many handles.
     pub fn put(&self, name: &[u8], content: Content) -> Result<Names, AllocError>
         ensures { IfOk result (λ names. names ≡ insert self.now name.now content) }
     {
-        let alloc = *self.chunks.allocator();
-        let mut made = Builder::new(alloc);
-        let entry = Draft::new(alloc).with(name, &[], &[], content)?;
+        let mut made = Builder::new(*self.chunks.allocator());
         made.add_before(&self.chunks, Edge::Before, name)?;
-        made.add(Chunk::of(alloc, entry)?, MOST)?;
+        made.add_entry(name, content)?;
         made.add_behind(&self.chunks, Edge::After, name)?;
+        finished(made)
+    }
+
+    /// The map with each of these contents under its name, one put after the other: a later one of a name takes the place of an earlier
+    /// one. An `Err` is as that of `put`.
+    pub fn with_all(&self, puts: &[Put<'_>]) -> Result<Names, AllocError>
+        ensures { IfOk result (λ names. names ≡ with_all puts.now self.now) }
+    {
+        let alloc = *self.chunks.allocator();
+        let sorted = in_order(alloc, puts)?;
+        let mut made = Builder::new(alloc);
+        let mut rest = Rest::from_chunk(&self.chunks, 0);
+        for put in &sorted {
+            rest = made.add_put(rest, put)?;
+        }
+        made.add_rest(rest)?;
         finished(made)
     }
 
@@ -148,7 +219,7 @@ impl Names {
         let mut copies = Builder::new(alloc);
         let rest = Rest::behind(&self.chunks, Edge::Before, from);
         copies.add_until(rest, Edge::AfterUnder, from, from.len(), to)?;
-        finished(over(alloc, &copies.chunks, &self.chunks)?)
+        finished(over(alloc, &copies.closed()?, &self.chunks)?)
     }
 }
 
@@ -183,14 +254,15 @@ fn is_under(chunks: &[Chunk], prefix: &[u8]) -> bool
     chunk.begins(at, prefix)
 }
 
-/// The map of the chunks that were added.
+/// The map of the entries that were added.
 fn finished(made: Builder) -> Result<Names, AllocError>
-    requires { is_sorted (slice_cmp nat_cmp) (joined made.chunks.items) ≡ true }
-    ensures { IfOk result (λ names. names ≡ from_sorted (joined made.chunks.items)) }
+    requires { is_sorted (slice_cmp nat_cmp) made ≡ true }
+    ensures { IfOk result (λ names. names ≡ from_sorted made) }
 {
+    let chunks = made.closed()?;
     let mut count: usize = 0;
     let mut bytes: u64 = 0;
-    for chunk in &made.chunks {
+    for chunk in &chunks {
         let Some(more) = count.checked_add(chunk.len()) else {
             return Err(AllocError);
         };
@@ -200,7 +272,6 @@ fn finished(made: Builder) -> Result<Names, AllocError>
         };
         bytes = more;
     }
-    let Builder { chunks } = made;
     Ok(Names {
         chunks,
         count,

@@ -4,7 +4,9 @@ ghost use Rattle.std.specs.Prelude.{◌≡◌, ◌<◌, [], true, length, drop, 
 ghost use Rattle.std.specs.Ordering.{nat_cmp};
 ghost use Rattle.std.specs.Cmp.Lexicographic.{slice_cmp};
 ghost use Rattle.std.specs.FinMap.{is_sorted};
-ghost use Rattle.names.specs.declared.edge.Edge.TheVariants.{Before, After};
+ghost use Rattle.std.specs.List.{list_any};
+ghost use Rattle.names.specs.Contents.{is_long_copy};
+ghost use Rattle.names.specs.declared.edge.Edge.TheVariants.{Before, After, AfterUnder};
 ghost use Rattle.names.specs.Private.Entries.{joined, passes, lies_behind, NonePass, HasFirst, IsRun};
 
 use crate::builder::open_at;
@@ -117,5 +119,30 @@ impl<'a> Rest<'a> {
             None => Ok(end),
             Some(name) => Ok(chunk.place(Edge::Before, &name).max(at + 1)),
         }
+    }
+
+    /// Whether some name that is left and begins with `from` has more than `most` bytes with `to` in its place. No name that is left
+    /// is below `from`.
+    pub(crate) fn has_long_copy(self, from: &[u8], to: &[u8], most: usize) -> bool
+        ensures { result ≡ list_any (λ e. is_long_copy most from.now to.now e.0) (filter (passes AfterUnder from.now) self.entry) }
+    {
+        let Rest {
+            chunks,
+            mut chunk,
+            mut at,
+        } = self;
+        while chunk < chunks.len() {
+            let here = &chunks[chunk];
+            let end = here.place(Edge::AfterUnder, from).max(at);
+            if here.has_long_copy(at, end, from, to, most) {
+                return true;
+            }
+            if end < here.len() {
+                return false;
+            }
+            chunk += 1;
+            at = 0;
+        }
+        false
     }
 }

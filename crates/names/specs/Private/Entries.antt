@@ -49,6 +49,16 @@ pub record IsChunk (names : List (List ℕ)) (contents : List Content) (bytes : 
   pub entries : AreEntries names contents bytes
   pub some : 0 < length names
 
+-- Each number lies from the first one on up to the second one.
+abbrev pub LieWithin : ℕ → ℕ → List Content → Type 0
+LieWithin oldest newest [] = Unit {0}
+LieWithin oldest newest (c ∷ cs) = (oldest ≤ c.number) × (c.number ≤ newest) × LieWithin oldest newest cs
+
+-- The names and contents are a chunk, whose numbers lie from the first one on up to the second one.
+pub record IsBody (names : List (List ℕ)) (contents : List Content) (bytes oldest newest : ℕ) : Type 0 where
+  pub chunk : IsChunk names contents bytes
+  pub numbers : LieWithin oldest newest contents
+
 -- the entry with this text in place of so many first bytes of its name
 abbrev pub begun : ℕ → List ℕ → Entry → Entry
 begun count beginning e = (beginning ++ drop count e.0, e.1)

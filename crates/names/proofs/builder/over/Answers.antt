@@ -21,11 +21,11 @@ add_over-requires c =
 
 pub loop-chunk-preserved : goal.loop-chunk-preserved
 loop-chunk-preserved c =
-    chunk_step c.args.chunks.now c.loop-chunk.chunk-index c.chunk-item.result (joined c.loop-chunk.made.chunks.items) (joined c.add_over.new.self.chunks.items)
+    chunk_step c.args.chunks.now c.loop-chunk.chunk-index c.chunk-item.result c.loop-chunk.made c.add_over.new.self
     c.loop-chunk.rest c.in_ok-rest.rest (laid_over (joined c.args.chunks.now) (joined c.args.others.now)) c.loop-chunk-test.true c.chunk-item.is
     c.loop-chunk.invariant c.in_ok-rest.ensures
 
 pub returns : goal.returns
 returns c =
-    chunks_end c.args.chunks.now c.loop-chunk.chunk-index (joined c.loop-chunk.made.chunks.items) c.loop-chunk.rest (joined c.add_rest.new.self.chunks.items)
+    chunks_end c.args.chunks.now c.loop-chunk.chunk-index c.loop-chunk.made c.loop-chunk.rest c.add_rest.new.self
     (laid_over (joined c.args.chunks.now) (joined c.args.others.now)) c.loop-chunk-test.false c.loop-chunk.invariant c.in_ok-add_rest.ensures

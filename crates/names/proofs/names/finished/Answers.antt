@@ -1,4 +1,7 @@
-use Rattle.std.proofs.Common.{arith}
+use Rattle.std.proofs.Common.{◌∙◌, ap, arith}
+use Rattle.std.specs.Ordering.{nat_cmp}
+use Rattle.std.specs.Cmp.Lexicographic.{slice_cmp}
+use Rattle.std.specs.FinMap.{is_sorted}
 use Rattle.names.proofs.PartLemmas.{is_version, length_more, bytes_more}
 use Rattle.names.proofs.names.finished.Goals as goal
 
@@ -18,5 +21,6 @@ loop-chunk-preserved c =
 
 pub invariant_of-result : goal.invariant_of-result
 invariant_of-result c =
-    is_version c.args.made.chunks.items c.deref-chunk-items.result.now c.loop-chunk.chunk-index c.loop-chunk.count c.loop-chunk.bytes c.requires
+    is_version c.in_ok-chunks.chunks.items c.deref-chunk-items.result.now c.loop-chunk.chunk-index c.loop-chunk.count c.loop-chunk.bytes
+    (ap (is_sorted (slice_cmp nat_cmp)) c.in_ok-chunks.ensures ∙ c.requires)
     c.deref-chunk-items.ensures.value c.loop-chunk-test.false c.loop-chunk.invariant.count_is c.loop-chunk.invariant.bytes_are

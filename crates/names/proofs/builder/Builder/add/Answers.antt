@@ -1,12 +1,9 @@
-use Rattle.names.proofs.BuilderLemmas.{pushed_twice, pushed_both}
+use Rattle.std.proofs.lemmas.Result.{on_ok_weaker}
+use Rattle.names.proofs.BuilderLemmas.{added_behind}
 use Rattle.names.proofs.builder.Builder.add.Goals as goal
-
-pub returns-then-saturating_add-most : goal.returns-then-saturating_add-most
-returns-then-saturating_add-most c =
-    pushed_twice c.args.self.now.chunks.items c.pop.new.self.items c.push-then-saturating_add-most.new.self.items c.push-then-saturating_add-most-2.new.self.items
-    c.in-Some.last c.args.chunk c.in-Some.ensures.items c.in_ok-push-2.ensures.items c.in_ok-push-3.ensures.items
 
 pub returns : goal.returns
 returns c =
-    pushed_both c.args.self.now.chunks.items c.pop.new.self.items c.push-2.new.self.items c.in-Some.last c.args.chunk c.in_ok-both.field-0 c.in-Some.ensures.items
-    c.in_ok-both.ensures c.in_ok-push-4.ensures.items
+    on_ok_weaker c.push.result
+    (λ made. added_behind c.self.inside.chunks.items c.close.new.chunks.items c.push.new.chunks.items c.self.inside.draft c.close.new.draft c.args.chunk c.args.self.now
+    c.self.view_is c.in_ok-close.ensures.closed c.in_ok-close.ensures.none made) c.push.ensures

@@ -1,7 +1,7 @@
 use Rattle.std.proofs.Common.{◌≡◌, ◌<◌, ◌++◌, [], map, length, refl, sym, ◌∙◌, ap, subst, arith}
 use Rattle.std.specs.Prelude.{filter}
 use Rattle.names.specs.declared.edge.Edge.TheVariants.{Before, After}
-use Rattle.names.specs.Private.Entries.{begun, joined, laid_over, passes, lies_behind, NonePass, IsRun}
+use Rattle.names.specs.Private.Entries.{begun, laid_over, passes, lies_behind, NonePass, IsRun}
 use Rattle.names.proofs.PartLemmas.{some_entry}
 use Rattle.names.proofs.OverLemmas.{none_filter}
 use Rattle.names.proofs.RestLemmas.{over_step, over_end}
@@ -48,18 +48,18 @@ loop-at-preserved c =
     record {
       inside = run.inside;
       done = λ later.
-          over_step chunk rest c.in_ok-rest.rest c.without-rest.result (joined c.loop-at.self.chunks.items)
-          (joined c.add_until.new.self.chunks.items) (joined c.add_part.new.self.chunks.items)
-          (joined c.args.self.now.chunks.items ++ laid_over (chunk ++ later) c.args.rest) name c.loop-at.at c.in_ok-to.to some_entry later below
+          over_step chunk rest c.in_ok-rest.rest c.without-rest.result c.loop-at.self
+          c.add_until.new.self c.add_part.new.self
+          (c.args.self.now ++ laid_over (chunk ++ later) c.args.rest) name c.loop-at.at c.in_ok-to.to some_entry later below
           (c.in_ok-name.ensures some_entry) (c.loop-at.invariant.done later)
           (c.in_ok-rest.ensures.added
-          ∙ ap (λ n. joined c.loop-at.self.chunks.items ++ map (begun 0 []) (filter (passes Before n) rest)) c.deref.ensures.value)
+          ∙ ap (λ n. c.loop-at.self ++ map (begun 0 []) (filter (passes Before n) rest)) c.deref.ensures.value)
           (c.in_ok-rest.ensures.left ∙ ap (λ n. filter (lies_behind Before n) rest) c.deref.ensures.value)
           (c.without-rest.ensures ∙ ap (λ n. filter (lies_behind After n) c.in_ok-rest.rest) c.deref-in-loop-at.ensures.value) run c.in_ok-add_part.ensures;
     }
 
 pub returns : goal.returns
 returns c = λ later.
-    over_end c.args.chunk.now later c.loop-at.rest (joined c.loop-at.self.chunks.items)
-    (joined c.args.self.now.chunks.items ++ laid_over (c.args.chunk.now ++ later) c.args.rest) c.loop-at.at
+    over_end c.args.chunk.now later c.loop-at.rest c.loop-at.self
+    (c.args.self.now ++ laid_over (c.args.chunk.now ++ later) c.args.rest) c.loop-at.at
     (omega (arith, c.loop-at-test.false, c.len.ensures.len)) (c.loop-at.invariant.done later)

@@ -1,11 +1,11 @@
 use Rattle.std.proofs.Common.{◌≡◌, ◌-◌, ◌≤◌, ◌++◌, List, length, drop}
-use Rattle.names.specs.Private.Entries.{Entry, joined, laid_over}
+use Rattle.names.specs.Private.Entries.{Entry, laid_over}
 use Rattle.names.proofs.builder.Builder.add_over.Given as goal
 
 abbrev pub invariant-loop-at : goal.invariant-loop-at
 invariant-loop-at l = record {
   inside : l.at ≤ length l.chunk;
-  done : (later : List Entry) → joined l.self.chunks.items ++ laid_over (drop l.at l.chunk ++ later) l.rest ≡ joined l.fn.self.chunks.items ++ laid_over (l.chunk ++ later) l.fn.rest;
+  done : (later : List Entry) → l.self ++ laid_over (drop l.at l.chunk ++ later) l.rest ≡ l.fn.self ++ laid_over (l.chunk ++ later) l.fn.rest;
 }
 
 abbrev pub decreases-loop-at : goal.decreases-loop-at

@@ -1,4 +1,4 @@
-use Rattle.std.proofs.Common.{◌<◌, ◌≤◌, ◌++◌, [], map, length, get_or, sym, ◌∙◌, ap, subst, arith}
+use Rattle.std.proofs.Common.{◌<◌, ◌≤◌, ◌++◌, [], map, length, sym, ◌∙◌, ap, subst, arith}
 use Rattle.std.specs.Prelude.{filter}
 use Rattle.std.proofs.lemmas.List.{get_or_default}
 use Rattle.names.specs.Private.Entries.{begun, joined, passes, lies_behind, Falls}
@@ -11,7 +11,7 @@ pub loop-chunk-init : goal.loop-chunk-init
 loop-chunk-init c = record {
   inside = λ below. let in_chunk = c.rest.invariant.inside below in omega (arith, in_chunk);
   added =
-      ap (λ es. joined c.args.self.now.chunks.items ++ map (begun c.args.count c.args.beginning.now) (filter (passes c.args.edge c.args.text.now) es)) c.rest.view_is;
+      ap (λ es. c.args.self.now ++ map (begun c.args.count c.args.beginning.now) (filter (passes c.args.edge c.args.text.now) es)) c.rest.view_is;
   left = ap (filter (lies_behind c.args.edge c.args.text.now)) c.rest.view_is;
 }
 
@@ -53,7 +53,7 @@ returns-then-to-len-clause-added c =
     (c.loop-chunk.invariant.inside c.loop-chunk-test.true) in
     stopped_added (passes c.args.edge c.args.text.now) chunks c.loop-chunk.chunk c.loop-chunk.at c.place.result c.max-to.result chunk
     (falls c.args.edge c.args.text.now (joined chunks) c.rest.invariant.rise) c.loop-chunk-test.true c.index-chunks-chunk.is within c.place.ensures c.max-to.ensures
-    c.args.count c.args.beginning.now (joined c.args.self.now.chunks.items) (joined c.loop-chunk.self.chunks.items) (joined c.add_part.new.self.chunks.items) c.args.rest
+    c.args.count c.args.beginning.now c.args.self.now c.loop-chunk.self c.add_part.new.self c.args.rest
     c.loop-chunk.invariant.added c.loop-chunk.invariant.left c.in_ok-add_part.ensures (omega (arith, c.if-to-len.true, c.len.ensures.len))
 
 pub returns-then-to-len-clause-left : goal.returns-then-to-len-clause-left
@@ -65,7 +65,7 @@ returns-then-to-len-clause-left c =
     (c.loop-chunk.invariant.inside c.loop-chunk-test.true) in
     stopped_left (passes c.args.edge c.args.text.now) chunks c.loop-chunk.chunk c.loop-chunk.at c.place.result c.max-to.result chunk
     (falls c.args.edge c.args.text.now (joined chunks) c.rest.invariant.rise) c.loop-chunk-test.true c.index-chunks-chunk.is within c.place.ensures c.max-to.ensures
-    c.args.count c.args.beginning.now (joined c.args.self.now.chunks.items) (joined c.loop-chunk.self.chunks.items) (joined c.add_part.new.self.chunks.items) c.args.rest
+    c.args.count c.args.beginning.now c.args.self.now c.loop-chunk.self c.add_part.new.self c.args.rest
     c.loop-chunk.invariant.added c.loop-chunk.invariant.left c.in_ok-add_part.ensures (omega (arith, c.if-to-len.true, c.len.ensures.len))
 
 pub loop-chunk-preserved : goal.loop-chunk-preserved
@@ -82,12 +82,12 @@ loop-chunk-preserved c =
       inside = λ below. omega arith;
       added =
           further_added p chunks c.loop-chunk.chunk c.loop-chunk.at c.place.result c.max-to.result chunk fall c.loop-chunk-test.true c.index-chunks-chunk.is within
-          c.place.ensures c.max-to.ensures c.args.count c.args.beginning.now (joined c.args.self.now.chunks.items) (joined c.loop-chunk.self.chunks.items)
-          (joined c.add_part.new.self.chunks.items) c.args.rest c.loop-chunk.invariant.added c.loop-chunk.invariant.left c.in_ok-add_part.ensures all;
+          c.place.ensures c.max-to.ensures c.args.count c.args.beginning.now c.args.self.now c.loop-chunk.self
+          c.add_part.new.self c.args.rest c.loop-chunk.invariant.added c.loop-chunk.invariant.left c.in_ok-add_part.ensures all;
       left =
           further_left p chunks c.loop-chunk.chunk c.loop-chunk.at c.place.result c.max-to.result chunk fall c.loop-chunk-test.true c.index-chunks-chunk.is within
-          c.place.ensures c.max-to.ensures c.args.count c.args.beginning.now (joined c.args.self.now.chunks.items) (joined c.loop-chunk.self.chunks.items)
-          (joined c.add_part.new.self.chunks.items) c.args.rest c.loop-chunk.invariant.added c.loop-chunk.invariant.left c.in_ok-add_part.ensures all;
+          c.place.ensures c.max-to.ensures c.args.count c.args.beginning.now c.args.self.now c.loop-chunk.self
+          c.add_part.new.self c.args.rest c.loop-chunk.invariant.added c.loop-chunk.invariant.left c.in_ok-add_part.ensures all;
     }
 
 pub invariant_of-result-2 : goal.invariant_of-result-2
@@ -99,7 +99,7 @@ invariant_of-result-2 c = record {
 pub returns-clause-added : goal.returns-clause-added
 returns-clause-added c =
     ended_added (passes c.args.edge c.args.text.now) c.rest.inside.chunks.now c.loop-chunk.chunk c.loop-chunk.at c.args.count c.args.beginning.now
-    (joined c.args.self.now.chunks.items) (joined c.loop-chunk.self.chunks.items) c.args.rest c.loop-chunk-test.false c.loop-chunk.invariant.added
+    c.args.self.now c.loop-chunk.self c.args.rest c.loop-chunk-test.false c.loop-chunk.invariant.added
 
 pub returns-clause-left : goal.returns-clause-left
 returns-clause-left c =

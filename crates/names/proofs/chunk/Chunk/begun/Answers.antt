@@ -1,7 +1,7 @@
 use Rattle.std.proofs.Common.{◌≡◌, ◌≤◌, ◌++◌, length, drop, ◌∙◌, ap, sym, subst, arith}
 use Rattle.std.specs.Arc.{arc_value, arc_slice_items}
 use Rattle.names.specs.declared.chunk.Body.{Body}
-use Rattle.names.specs.Private.Entries.{pairs, with_prefix, IsChunk}
+use Rattle.names.specs.Private.Entries.{pairs, with_prefix, IsBody}
 use Rattle.names.proofs.PairLemmas.{IsChunk-begun, begun_view}
 use Rattle.names.proofs.chunk.Chunk.begun.Goals as goal
 
@@ -11,8 +11,10 @@ invariant_of-result c =
     let other = arc_slice_items c.in_ok-prefix.prefix in
     let body = arc_value c.self.inside.body in
     let same : arc_value c.in_ok-body.body ≡ body = c.in_ok-body.ensures in
-    subst (λ (b : Body). IsChunk (with_prefix other b.suffixes) b.contents.items b.bytes) (sym same)
-    (IsChunk-begun prefix other body.suffixes body.contents.items body.bytes c.self.invariant)
+    subst (λ (b : Body). IsBody (with_prefix other b.suffixes) b.contents.items b.bytes b.oldest b.newest) (sym same) (record {
+      chunk = IsChunk-begun prefix other body.suffixes body.contents.items body.bytes c.self.invariant.chunk;
+      numbers = c.self.invariant.numbers;
+    })
 
 pub returns : goal.returns
 returns c =

@@ -7,5 +7,5 @@ use Rattle.names.proofs.chunk.Chunk.first.Goals as goal
 pub returns-clause-inside : goal.returns-clause-inside
 returns-clause-inside c =
     let body = arc_value c.self.inside.body in
-    let some = c.self.invariant.some in
-    omega (arith, some, view_length (names_of c.self.inside) body.contents body.bytes c.args.self.now c.self.invariant c.self.view_is)
+    let some = c.self.invariant.chunk.some in
+    omega (arith, some, view_length (names_of c.self.inside) body.contents body.bytes c.args.self.now c.self.invariant.chunk c.self.view_is)

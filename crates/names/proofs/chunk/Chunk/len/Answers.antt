@@ -6,4 +6,4 @@ use Rattle.names.proofs.chunk.Chunk.len.Goals as goal
 
 pub returns-clause-len : goal.returns-clause-len
 returns-clause-len c =
-    c.len.ensures ∙ (ap (λ (b : Body). vec_len b.contents) c.deref.ensures ∙ chunk_count c.self.inside c.args.self.now c.self.invariant c.self.view_is)
+    c.len.ensures ∙ (ap (λ (b : Body). vec_len b.contents) c.deref.ensures ∙ chunk_count c.self.inside c.args.self.now c.self.invariant.chunk c.self.view_is)

@@ -22,17 +22,16 @@ add_behind-requires c =
     subst (λ cs. Falls (passes After c.args.name.now) (joined cs)) (sym c.deref-2.ensures.value)
     (falls After c.args.name.now (joined c.self.inside.chunks.items) c.self.invariant.rise)
 
-made_is : (c : In_ok-add_behind) → joined c.add_behind.new.self.chunks.items
+made_is : (c : In_ok-add_behind) → c.add_behind.new.self
     ≡ filter (passes Before c.args.name.now) (joined c.self.inside.chunks.items)
     ++ (c.args.name.now, c.args.content) ∷ filter (lies_behind After c.args.name.now) (joined c.self.inside.chunks.items)
 made_is c =
-    let none = joined c.new-made.result.chunks.items in
-    let two = joined c.add.new.self.chunks.items in
+    let none = c.new-made.result in
+    let two = c.add_entry.new.self in
     let es = joined c.self.inside.chunks.items in
-    made_put none (joined c.add_before.new.self.chunks.items) two (joined c.add_behind.new.self.chunks.items) (filter (passes Before c.args.name.now) es)
-    (filter (lies_behind After c.args.name.now) es) c.in_ok-of.field-0 c.in_ok-entry.entry c.new.result c.args.name.now c.args.content c.new-made.ensures
-    (c.in_ok-add_before.ensures ∙ ap (λ cs. none ++ filter (passes Before c.args.name.now) (joined cs)) c.deref.ensures.value) c.new.ensures c.in_ok-entry.ensures
-    c.in_ok-of.ensures c.in_ok-add.ensures
+    made_put none c.add_before.new.self two c.add_behind.new.self (filter (passes Before c.args.name.now) es) (filter (lies_behind After c.args.name.now) es)
+    c.args.name.now c.args.content c.new-made.ensures
+    (c.in_ok-add_before.ensures ∙ ap (λ cs. none ++ filter (passes Before c.args.name.now) (joined cs)) c.deref.ensures.value) c.in_ok-add_entry.ensures
     (c.in_ok-add_behind.ensures ∙ ap (λ cs. two ++ filter (lies_behind After c.args.name.now) (joined cs)) c.deref-2.ensures.value)
 
 pub finished-requires : goal.finished-requires
@@ -41,7 +40,7 @@ finished-requires c =
 
 pub returns : goal.returns
 returns c =
-    let made = joined c.add_behind.new.self.chunks.items in
+    let made = c.add_behind.new.self in
     IfOk-weaker c.finished.result (λ names. names ≡ from_sorted made) (λ names. names ≡ insert c.args.self.now c.args.name.now c.args.content)
     (λ names is. put_done (joined c.self.inside.chunks.items) made c.args.name.now c.args.content c.args.self.now names c.self.invariant.rise c.self.view_is
     (made_is (goal.at.returns c).In_ok-add_behind) is) c.finished.ensures

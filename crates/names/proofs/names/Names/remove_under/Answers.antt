@@ -23,13 +23,13 @@ add_behind-requires c =
     subst (λ cs. Falls (passes AfterUnder c.args.prefix.now) (joined cs)) (sym c.deref-2.ensures.value)
     (falls AfterUnder c.args.prefix.now (joined c.self.inside.chunks.items) c.self.invariant.rise)
 
-made_is : (c : In_ok-add_behind) → joined c.add_behind.new.self.chunks.items
+made_is : (c : In_ok-add_behind) → c.add_behind.new.self
     ≡ filter (passes Before c.args.prefix.now) (joined c.self.inside.chunks.items) ++ filter (lies_behind AfterUnder c.args.prefix.now) (joined c.self.inside.chunks.items)
 made_is c =
-    let none = joined c.new-made.result.chunks.items in
-    let one = joined c.add_before.new.self.chunks.items in
+    let none = c.new-made.result in
+    let one = c.add_before.new.self in
     let es = joined c.self.inside.chunks.items in
-    made_remove none one (joined c.add_behind.new.self.chunks.items) (filter (passes Before c.args.prefix.now) es) (filter (lies_behind AfterUnder c.args.prefix.now) es)
+    made_remove none one c.add_behind.new.self (filter (passes Before c.args.prefix.now) es) (filter (lies_behind AfterUnder c.args.prefix.now) es)
     c.new-made.ensures (c.in_ok-add_before.ensures ∙ ap (λ cs. none ++ filter (passes Before c.args.prefix.now) (joined cs)) c.deref.ensures.value)
     (c.in_ok-add_behind.ensures ∙ ap (λ cs. one ++ filter (lies_behind AfterUnder c.args.prefix.now) (joined cs)) c.deref-2.ensures.value)
 
@@ -38,7 +38,7 @@ finished-requires c = ap (is_sorted (slice_cmp nat_cmp)) (made_is c) ∙ remove_
 
 pub returns : goal.returns
 returns c =
-    let made = joined c.add_behind.new.self.chunks.items in
+    let made = c.add_behind.new.self in
     IfOk-weaker c.finished.result (λ names. names ≡ from_sorted made) (λ names. names ≡ retain_keys c.args.self.now (λ name. not (begins_with c.args.prefix.now name)))
     (λ names is. remove_under_done (joined c.self.inside.chunks.items) made c.args.prefix.now c.args.self.now names c.self.invariant.rise c.self.view_is
     (made_is (goal.at.returns c).In_ok-add_behind) is) c.finished.ensures
