@@ -1,6 +1,6 @@
 -- Places as bits, written and read back.
 use Rattle.std.proofs.Common.{◌≡◌, ◌≢◌, ℕ, zero, suc, ◌+◌, ◌*◌, ◌/◌, ◌%◌, ◌^◌, ◌<◌, ◌≤◌, Bool, true, false, cond, ◌==◌, ◌&&◌, ◌⊎◌, inl, inr, List, [], ◌∷◌, ◌++◌}
-use Rattle.std.proofs.Common.{length, map, get_or, refl, sym, ap, ◌∙◌, arith, append_assoc, length-append}
+use Rattle.std.proofs.Common.{length, map, get_or, refl, sym, ap, ◌∙◌, arith, append_assoc}
 use Rattle.std.specs.Prelude.{All, filter}
 use Rattle.std.specs.List.Sorted.{IsStrictlyIncreasing}
 use Rattle.std.proofs.Math.Nat.{pow-succ', div-div-eq-div-mul, pow-le-pow_right}
@@ -304,21 +304,12 @@ module _ (old bytes new : List ℕ) (place : ℕ) (is : new ≡ old ++ marked_be
   pub marked_absent : is_marked bytes place ≡ false → new ≡ old ++ marked_below (place + 1) bytes
   marked_absent e = sym (append-nil new) ∙ next_place false e
 
-pub counted_there : (bytes : List ℕ) (place : ℕ) → is_marked bytes place ≡ true → length (marked_below place bytes) + 1 ≡ length (marked_below (place + 1) bytes)
-counted_there bytes place e =
-    sym (length-append (marked_below place bytes) (place ∷ [])) ∙ ap length (marked_there [] bytes (marked_below place bytes) place refl e)
-
-pub counted_absent : (bytes : List ℕ) (place : ℕ) → is_marked bytes place ≡ false → length (marked_below place bytes) ≡ length (marked_below (place + 1) bytes)
-counted_absent bytes place e = ap length (marked_absent [] bytes (marked_below place bytes) place refl e)
-
--- each place below the count is marked or is not
-pub length-below : (count : ℕ) (places : List ℕ) → IsStrictlyIncreasing places → All (λ p. p < count) places
-    → length (filter (has places) (numbers_below count)) ≡ length places
-length-below count places rising below =
-    ap length
-    (same_rising (filter (has places) (numbers_below count)) places
+-- all that are below the count are found among those below it
+pub among_below : (count : ℕ) (places : List ℕ) → IsStrictlyIncreasing places → All (λ p. p < count) places → filter (has places) (numbers_below count) ≡ places
+among_below count places rising below =
+    same_rising (filter (has places) (numbers_below count)) places
     (IsStrictlyIncreasing-filter (has places) (numbers_below count) (numbers_below-rising count)) rising
-    (λ p. has-filter (has places) (numbers_below count) p ∙ by_place p (cases_lt p count)))
+    (λ p. has-filter (has places) (numbers_below count) p ∙ by_place p (cases_lt p count))
   where
     by_place : (p : ℕ) → (p < count) ⊎ (count ≤ p) → (has (numbers_below count) p && has places p) ≡ has places p
     by_place p (inl lt) = rw (has_below count p lt) refl

@@ -1,26 +1,22 @@
 -- The contents of which a segment is made.
-use Rattle.std.proofs.Common.{◌≡◌, ℕ, zero, suc, ◌+◌, ◌<◌, ◌≤◌, Bool, true, false, ◌&&◌, ◌||◌, ◌==◌, List, [], ◌∷◌, ◌++◌, map, length, get_or, take, refl, sym, ap, ◌∙◌, arith, append_assoc, add-zero, zero-add}
+use Rattle.std.proofs.Common.{◌≡◌, ℕ, zero, suc, ◌+◌, ◌<◌, ◌≤◌, Bool, true, false, ◌&&◌, ◌||◌, ◌==◌, List, [], ◌∷◌, ◌++◌, map, length, get_or, take, refl, sym, ap, ◌∙◌, arith}
 use Rattle.std.specs.Prelude.{All, Contains, eqb, filter, slice_index}
 use Rattle.std.specs.List.{dedup}
-use Rattle.std.specs.List.Sorted.{IsPermutation, IsStrictlyIncreasing}
-use Rattle.std.proofs.Math.Bool.{or-false, and-false}
+use Rattle.std.specs.List.Sorted.{IsStrictlyIncreasing}
 use Rattle.std.proofs.lemmas.Bool.{eq-eqb}
-use Rattle.std.proofs.lemmas.Bool.Decides.{nat_tests}
 use Rattle.std.proofs.lemmas.List.Folds.{list_any_at}
-use Rattle.std.proofs.lemmas.List.{append-nil, length-map, length-take, map_more, map-append, take_more, take_all, get_or-map}
-use Rattle.std.proofs.lemmas.List.Elements.{All-nil, All-cons, All-head, All-tail, All-append}
+use Rattle.std.proofs.lemmas.List.{length-map, map-append, take_more, take_all, get_or-map}
+use Rattle.std.proofs.lemmas.List.Elements.{All-nil, All-cons, All-head, All-tail}
 use Rattle.std.proofs.lemmas.List.Kept.{Contains-dedup_nat, Contains-from_dedup}
 use Rattle.std.proofs.lemmas.List.Filters.{All-dedup}
-use Rattle.std.proofs.lemmas.List.Sorted.{list_any-IsPermutation, All-permutation}
-use Rattle.segments.specs.declared.content.Analysed.{Analysed}
-use Rattle.segments.specs.Contents.{Content, has, numbers_of, contents_of, AreInOrder}
+use Rattle.segments.specs.Contents.{Content, has, numbers_of, AreInOrder}
 use Rattle.segments.specs.Private.Table.{PlaceSet, trigrams_of}
-use Rattle.segments.specs.Private.Keys.{key, trigram_in, place_in, keys_of, content_keys, Precedes, Adds, HasKeys}
+use Rattle.segments.specs.Private.Keys.{key, trigram_in, place_in, keys_of, Precedes, Adds, HasKeys}
 use Rattle.segments.specs.Private.Below.{numbers_below}
 use Rattle.segments.specs.Private.Places.{trigrams_at, content_at, contents_at, IsSegment}
 use Rattle.segments.proofs.KeyLemmas.{keys_of-none, same_key, place_in-key, has-trigrams_at}
-use Rattle.segments.proofs.SetLemmas.{has-append, contains-has}
-use Rattle.segments.proofs.Members.{same_rising}
+use Rattle.segments.proofs.SetLemmas.{contains-has}
+use Rattle.segments.proofs.Members.{All-same, same_rising}
 use Rattle.segments.proofs.Rising.{rising-head, rising-tail, rising-cons, All-left, All-right}
 
 abbrev pub no_content : Content
@@ -42,7 +38,7 @@ has-dedup xs n =
     (λ there. has-contains xs n (Contains-from_dedup eqb xs n (contains-has (dedup eqb xs) n there)))
     (λ there. has-contains (dedup eqb xs) n (Contains-dedup_nat xs n (contains-has xs n there)))
 
--- ---- the keys of each content
+-- ---- the keys of one place
 
 pub has-keys : (place : ℕ) (ts : List ℕ) (t p : ℕ) → place < 4294967296 → p < 4294967296
     → has (map (λ u. key u place) ts) (key t p) ≡ (has ts t && place == p)
@@ -57,84 +53,6 @@ has-keys place (u ∷ ts) t p small small' =
     either true true false = refl
     either true false false = refl
     either false b c = refl
-
--- no content below the first
-keys_above : (place : ℕ) (contents : List Content) (t p : ℕ) → p < place → place + length contents ≤ 4294967296
-    → has (content_keys place contents) (key t p) ≡ false
-unfolding content_keys
-keys_above place [] t p below fits = refl
-keys_above place (c ∷ contents) t p below fits =
-    let ne : (place == p) ≡ false = grind (arith, nat_tests) in
-    has-append (map (λ u. key u place) c.trigrams) (content_keys (place + 1) contents) (key t p)
-    ∙ ap (λ b. b || has (content_keys (place + 1) contents) (key t p))
-    (has-keys place c.trigrams t p (omega arith) (omega arith) ∙ ap (λ b. has c.trigrams t && b) ne ∙ and-false (has c.trigrams t))
-    ∙ keys_above (place + 1) contents t p (omega arith) (omega arith)
-
-keys_at : (place : ℕ) (contents : List Content) (t m : ℕ) → place + length contents ≤ 4294967296 → place + m < 4294967296
-    → has (content_keys place contents) (key t (place + m)) ≡ has (get_or contents m no_content).trigrams t
-unfolding content_keys
-keys_at place [] t m fits small = refl
-keys_at place (c ∷ contents) t zero fits small =
-    let is : (place == place + 0) ≡ true = grind (arith, nat_tests) in
-    let ts = c.trigrams in
-    has-append (map (λ u. key u place) ts) (content_keys (place + 1) contents) (key t (place + 0))
-    ∙ ap (λ b. has (map (λ u. key u place) ts) (key t (place + 0)) || b) (keys_above (place + 1) contents t (place + 0) (omega arith) (omega arith))
-    ∙ or-false (has (map (λ u. key u place) ts) (key t (place + 0)))
-    ∙ has-keys place ts t (place + 0) (omega arith) (omega arith)
-    ∙ ap (λ b. has ts t && b) is
-    ∙ always (has ts t)
-  where
-    always : (b : Bool) → (b && true) ≡ b
-    always true = refl
-    always false = refl
-keys_at place (c ∷ contents) t (suc m) fits small =
-    let ne : (place == place + suc m) ≡ false = grind (arith, nat_tests) in
-    let next : (place + 1) + m ≡ place + suc m = omega arith in
-    has-append (map (λ u. key u place) c.trigrams) (content_keys (place + 1) contents) (key t (place + suc m))
-    ∙ ap (λ b. b || has (content_keys (place + 1) contents) (key t (place + suc m)))
-    (has-keys place c.trigrams t (place + suc m) (omega arith) (omega arith) ∙ ap (λ b. has c.trigrams t && b) ne ∙ and-false (has c.trigrams t))
-    ∙ rw next at (keys_at (place + 1) contents t m (omega arith) (omega arith))
-
-pub all_below : (place : ℕ) (contents : List Content) → place + length contents ≤ 4294967296
-    → All (λ k. place_in k < place + length contents) (content_keys place contents)
-unfolding content_keys
-all_below place [] fits = All-nil (λ k. place_in k < place + 0)
-all_below place (c ∷ contents) fits =
-    let next : (place + 1) + length contents ≡ place + length (c ∷ contents) = omega arith in
-    All-append (λ k. place_in k < place + length (c ∷ contents)) (map (λ u. key u place) c.trigrams) (content_keys (place + 1) contents)
-    (firsts c.trigrams) (rw next at (all_below (place + 1) contents (omega arith)))
-  where
-    firsts : (us : List ℕ) → All (λ k. place_in k < place + length (c ∷ contents)) (map (λ u. key u place) us)
-    firsts [] = All-nil (λ k. place_in k < place + length (c ∷ contents))
-    firsts (u ∷ us) =
-        All-cons (λ k. place_in k < place + length (c ∷ contents)) (key u place) (map (λ v. key v place) us)
-        (rw (place_in-key u place (omega arith)) (omega arith)) (firsts us)
-
--- ---- the loop over the contents
-
-content_keys-push : (place : ℕ) (contents : List Content) (c : Content)
-    → content_keys place (contents ++ c ∷ []) ≡ content_keys place contents ++ map (λ t. key t (place + length contents)) c.trigrams
-unfolding content_keys
-content_keys-push place [] c = rw (add-zero place) (append-nil (map (λ t. key t place) c.trigrams))
-content_keys-push place (d ∷ contents) c =
-    let next : (place + 1) + length contents ≡ place + length (d ∷ contents) = omega arith in
-    ap (λ r. map (λ u. key u place) d.trigrams ++ r) (rw next at (content_keys-push (place + 1) contents c))
-    ∙ sym (append_assoc (map (λ u. key u place) d.trigrams) (content_keys (place + 1) contents) (map (λ t. key t (place + length (d ∷ contents))) c.trigrams))
-
-pub content_keys-none : content_keys 0 [] ≡ []
-unfolding content_keys
-content_keys-none = refl
-
-pub content_keys_more : (analysed : List Analysed) (i : ℕ) (a : Analysed) (keys : List ℕ) → i < length analysed → a ≡ get_or analysed i a
-    → keys ≡ content_keys 0 (contents_of (take i analysed))
-    → keys ++ map (λ t. key t i) a.trigrams.now ≡ content_keys 0 (contents_of (take (i + 1) analysed))
-content_keys_more analysed i a keys inside is so_far =
-    let content : Analysed → Content = λ b. record { number = b.number; trigrams = b.trigrams.now } in
-    let before = contents_of (take i analysed) in
-    let count : 0 + length before ≡ i = omega (arith, length-map (take i analysed) content, length-take i analysed) in
-    ap (λ ks. ks ++ map (λ t. key t i) a.trigrams.now) so_far
-    ∙ sym (rw count at (content_keys-push 0 before (content a)))
-    ∙ ap (content_keys 0) (sym (map_more content analysed i a inside ∙ ap (λ (w : Analysed). before ++ content w ∷ []) (sym is)))
 
 -- ---- the contents are those of the sets
 
@@ -246,29 +164,32 @@ precedes_none keys = record {
   other = λ inside. All-nil (λ (s : PlaceSet). s.trigram < trigram_in (slice_index keys 0));
 }
 
-pub has_keys : (keys sorted ready : List ℕ) (sets : List PlaceSet) → IsPermutation keys sorted → ready ≡ dedup eqb sorted
-    → Adds [] ready (length ready) sets → HasKeys keys sets
-has_keys keys sorted ready sets moved once laid =
-    let is : keys_of sets ≡ dedup eqb sorted =
+pub has_keys : (keys ready : List ℕ) (sets : List PlaceSet) → ready ≡ dedup eqb keys → Adds [] ready (length ready) sets → HasKeys keys sets
+has_keys keys ready sets once laid =
+    let is : keys_of sets ≡ dedup eqb keys =
     laid.is ∙ ap (λ ks. ks ++ take (length ready) ready) keys_of-none ∙ take_all (length ready) ready (omega arith) ∙ once in
     record {
       rising = laid.rising;
       places = laid.places;
       small = laid.small;
-      same = λ k. ap (λ ks. has ks k) is ∙ has-dedup sorted k ∙ sym (list_any-IsPermutation (λ m. m == k) keys sorted moved);
-      below = λ n below. rw is (All-dedup eqb (λ k. place_in k < n) sorted (All-permutation (λ k. place_in k < n) keys sorted moved below));
+      same = λ k. ap (λ ks. has ks k) is ∙ has-dedup keys k;
+      below = λ n below. rw is (All-dedup eqb (λ k. place_in k < n) keys below);
     }
+
+-- sets have the keys of any list with the same keys
+pub has_same_keys : (keys ordered : List ℕ) (sets : List PlaceSet) → ((k : ℕ) → has ordered k ≡ has keys k) → HasKeys ordered sets → HasKeys keys sets
+has_same_keys keys ordered sets same h = record {
+  rising = h.rising;
+  places = h.places;
+  small = h.small;
+  same = λ k. h.same k ∙ same k;
+  below = λ n below. h.below n (All-same (λ k. place_in k < n) ordered keys same below);
+}
 
 -- The keys are those of the contents.
 pub record AreKeysOf (contents : List Content) (keys : List ℕ) : Type 0 where
   pub below : All (λ k. place_in k < length contents) keys
   pub same : (t i : ℕ) → i < length contents → has keys (key t i) ≡ has (get_or contents i no_content).trigrams t
-
-pub are_content_keys : (contents : List Content) (keys : List ℕ) → length contents ≤ 4294967296 → keys ≡ content_keys 0 contents → AreKeysOf contents keys
-are_content_keys contents keys few is = record {
-  below = rw is (rw zero-add at (all_below 0 contents (omega (arith, few))));
-  same = λ t i inside. ap (λ ks. has ks (key t i)) is ∙ rw zero-add at (keys_at 0 contents t i (omega (arith, few)) (omega (arith, few, inside)));
-}
 
 module _ (contents : List Content) (numbers keys : List ℕ) (sets : List PlaceSet) (is : numbers ≡ numbers_of contents)
     (small : All (λ n. n < 4294967296) numbers) (order : AreInOrder contents) (of : AreKeysOf contents keys) (laid : HasKeys keys sets) where

@@ -9,7 +9,7 @@ use Rattle.segments.specs.Contents.{Content, has, pairs_in}
 use Rattle.segments.specs.Private.Below.{numbers_below}
 use Rattle.segments.specs.Private.Table.{PlaceSet}
 use Rattle.segments.specs.Private.Places.{trigrams_at, content_at, contents_at}
-use Rattle.segments.proofs.BitLemmas.{length-below}
+use Rattle.segments.proofs.BitLemmas.{among_below}
 
 -- the trigrams of all these places
 abbrev pairs_at : List PlaceSet → List ℕ → ℕ
@@ -41,8 +41,8 @@ by_sets count [] rising below = sym (no_pairs (numbers_below count))
 by_sets count (s ∷ sets) rising below =
     let later = by_sets count sets (All-tail (λ (r : PlaceSet). IsStrictlyIncreasing r.places) s sets rising)
     (All-tail (λ (r : PlaceSet). All (λ p. p < count) r.places) s sets below) in
-    let first = length-below count s.places (All-head (λ (r : PlaceSet). IsStrictlyIncreasing r.places) s sets rising)
-    (All-head (λ (r : PlaceSet). All (λ p. p < count) r.places) s sets below) in
+    let first = ap length (among_below count s.places (All-head (λ (r : PlaceSet). IsStrictlyIncreasing r.places) s sets rising)
+    (All-head (λ (r : PlaceSet). All (λ p. p < count) r.places) s sets below)) in
     omega (arith, sum_by-cons (λ (r : PlaceSet). length r.places) s sets, one_set_more s sets (numbers_below count), later, first)
 
 by_places : (numbers : List ℕ) (sets : List PlaceSet) (places : List ℕ) → pairs_in (map (content_at numbers sets) places) ≡ pairs_at sets places

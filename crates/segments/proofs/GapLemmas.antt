@@ -1,11 +1,9 @@
 -- Rising numbers as gaps, written and read back.
-use Rattle.std.proofs.Common.{◌≡◌, ℕ, zero, suc, ◌+◌, ◌-◌, ◌*◌, ◌/◌, ◌%◌, ◌<◌, ◌≤◌, Bool, true, false, cond, nat_lt, List, [], ◌∷◌, ◌++◌}
+use Rattle.std.proofs.Common.{◌≡◌, ℕ, zero, suc, ◌+◌, ◌-◌, ◌*◌, ◌/◌, ◌%◌, ◌<◌, ◌≤◌, Bool, true, false, nat_lt, List, [], ◌∷◌, ◌++◌}
 use Rattle.std.proofs.Common.{length, get_or, take, refl, sym, ap, ◌∙◌, arith, append_assoc, length-append}
 use Rattle.std.specs.Prelude.{All}
-use Rattle.std.specs.List.{count_by}
 use Rattle.std.specs.List.Sorted.{IsStrictlyIncreasing}
 use Rattle.std.proofs.lemmas.Bool.Decides.{nat_tests}
-use Rattle.std.proofs.lemmas.List.Sums.{sum_by-cons}
 use Rattle.std.proofs.lemmas.List.{append-nil, take_more, nil_from_length}
 use Rattle.std.proofs.lemmas.List.Elements.{All-nil, All-head, All-tail, All-weaker}
 use Rattle.segments.specs.Private.Gaps.{groups, bytes_of, bytes_after, numbers_in, numbers_after, last_of, limit, IsSpelled, IsFirstNumber}
@@ -29,10 +27,6 @@ numbers-low f b bytes low = let e : nat_lt b 128 ≡ true = grind (arith, nat_te
 numbers-high : (f : ℕ → ℕ) (b : ℕ) (bytes : List ℕ) → 128 ≤ b → numbers_in f (b ∷ bytes) ≡ numbers_in (λ high. f (b - 128 + 128 * high)) bytes
 unfolding numbers_in
 numbers-high f b bytes high = let e : nat_lt b 128 ≡ false = grind (arith, nat_tests) in rw e refl
-
-numbers-none : (f : ℕ → ℕ) → length (numbers_in f []) ≡ 0
-unfolding numbers_in
-numbers-none f = refl
 
 pub limit-more : (more : ℕ) → limit (suc more) ≡ 128 * limit more
 unfolding limit
@@ -152,26 +146,6 @@ length-groups (suc more) g = cases (nat_lt g 128) refl
     cases : (b : Bool) → nat_lt g 128 ≡ b → 0 < length (groups (suc more) g)
     cases true e = let low : g < 128 = grind (arith, nat_tests) in rw (groups-low (suc more) g low) (omega arith)
     cases false e = let high : 128 ≤ g = grind (arith, nat_tests) in rw (groups-high more g high) (omega arith)
-
--- each number takes one byte that is below 128
-pub length-numbers : (f : ℕ → ℕ) (bytes : List ℕ) → length (numbers_in f bytes) ≡ count_by (λ b. nat_lt b 128) bytes
-length-numbers f [] = numbers-none f
-length-numbers f (b ∷ bytes) =
-    cases (nat_lt b 128) refl (length-numbers (λ gap. f b + gap) bytes) (length-numbers (λ high. f (b - 128 + 128 * high)) bytes)
-  where
-    cases : (t : Bool) → nat_lt b 128 ≡ t → length (numbers_in (λ gap. f b + gap) bytes) ≡ count_by (λ c. nat_lt c 128) bytes
-        → length (numbers_in (λ high. f (b - 128 + 128 * high)) bytes) ≡ count_by (λ c. nat_lt c 128) bytes
-        → length (numbers_in f (b ∷ bytes)) ≡ count_by (λ c. nat_lt c 128) (b ∷ bytes)
-    cases true e one more =
-        let low : b < 128 = grind (arith, nat_tests) in
-        let both : count_by (λ c. nat_lt c 128) (b ∷ bytes) ≡ 1 + count_by (λ c. nat_lt c 128) bytes =
-        sum_by-cons (λ c. cond (nat_lt c 128) 1 0) b bytes ∙ ap (λ t. cond t 1 0 + count_by (λ c. nat_lt c 128) bytes) e in
-        omega (arith, ap length (numbers-low f b bytes low), one, both)
-    cases false e one more =
-        let high : 128 ≤ b = grind (arith, nat_tests) in
-        let both : count_by (λ c. nat_lt c 128) (b ∷ bytes) ≡ 0 + count_by (λ c. nat_lt c 128) bytes =
-        sum_by-cons (λ c. cond (nat_lt c 128) 1 0) b bytes ∙ ap (λ t. cond t 1 0 + count_by (λ c. nat_lt c 128) bytes) e in
-        omega (arith, ap length (numbers-high f b bytes high), more, both)
 
 -- A number's groups, of which the first are pushed and `left` has the others.
 pub record Pushing (old : List ℕ) (gap : ℕ) (new : List ℕ) (left : ℕ) : Type 0 where

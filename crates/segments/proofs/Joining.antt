@@ -1,31 +1,31 @@
 -- Contents of several segments that become those of one.
-use Rattle.std.proofs.Common.{◌≡◌, ◌≢◌, ℕ, zero, suc, ◌+◌, ◌<◌, ◌≤◌, Bool, true, false, ◌&&◌, ◌||◌, ◌==◌, List, [], ◌∷◌, ◌++◌, map, length, get_or, take, length-append, append_assoc, refl, sym, ap, subst, ◌∙◌, arith, ◌⊎◌, inl, inr}
+use Rattle.std.proofs.Common.{◌≡◌, ◌≢◌, ℕ, zero, suc, ◌+◌, ◌-◌, ◌<◌, ◌≤◌, Bool, true, false, ◌&&◌, ◌||◌, ◌==◌, List, [], ◌∷◌, ◌++◌, map, length, get_or, take, drop, length-append, refl, sym, ap, subst, ◌∙◌, arith, ◌⊎◌, inl, inr}
 use Rattle.std.specs.Prelude.{All, filter, eqb, Option, Some, None}
-use Rattle.std.specs.List.{list_any, filter_map, dedup}
+use Rattle.std.specs.List.{list_any, filter_map, dedup, slice_range}
 use Rattle.std.proofs.lemmas.List.Sorted.{list_any-IsPermutation}
 use Rattle.std.specs.List.Sorted.{IsStrictlyIncreasing, IsPermutation}
 use Rattle.std.specs.Borrow.{Bor}
 use Rattle.std.proofs.lemmas.Bool.{eq-eqb, false≢true, cases_lt}
 use Rattle.std.proofs.lemmas.Bool.Decides.{nat_tests}
 use Rattle.std.proofs.lemmas.List.Folds.{list_any-append, list_any_at, Any-from_list_any}
-use Rattle.std.proofs.lemmas.List.{length-map, get_or-map, take_more, flat_map_more, map-append}
-use Rattle.std.proofs.lemmas.List.{get_or_past, get_or_append_left, get_or_push, append-nil}
-use Rattle.std.proofs.lemmas.List.Elements.{All-nil, All-cons, All-head, All-tail, All-append, All-weaker, All-map, All-from_get_or, filter-append, filter_map-append}
+use Rattle.std.proofs.lemmas.List.{length-map, get_or-map, take_more, flat_map_more, map-append, take-append-drop, take-take, drop-take, length-take-le, get_or-append_right}
+use Rattle.std.proofs.lemmas.Grind.{flat_map-append}
+use Rattle.std.proofs.lemmas.List.{get_or_past, get_or_append_left, get_or_push}
+use Rattle.std.proofs.lemmas.List.Elements.{All-nil, All-cons, All-head, All-tail, All-append, All-weaker, All-map, All-contains, All-from_get_or, filter-append}
 use Rattle.std.proofs.lemmas.List.Kept.{IsStrictlyIncreasing-filter}
-use Rattle.std.proofs.Math.Bool.{or-false, and_comm}
+use Rattle.std.proofs.Math.Bool.{or-false, or-true, and_comm}
 use Rattle.segments.specs.Contents.{Content, has, numbers_of, contents_in, content_numbered, kept, AreInOrder, AllDiffer}
-use Rattle.segments.specs.Private.Table.{PlaceSet, no_set, places_of, trigrams_of}
-use Rattle.segments.specs.Private.Keys.{key, place_in}
+use Rattle.segments.specs.Private.Table.{PlaceSet, places_of, trigrams_of}
 use Rattle.segments.specs.Private.Below.{numbers_below}
 use Rattle.segments.specs.Private.Places.{trigrams_at, content_at, contents_at, IsSegment}
-use Rattle.segments.specs.Private.Joins.{says, is_place, IsPlaceAmong, IsWithin, AreTargets, key_at_target, target_keys, AddsKept, AreKept}
-use Rattle.segments.proofs.KeyLemmas.{same_key, place_in-key}
+use Rattle.segments.specs.Private.Joins.{says, is_place, IsPlaceAmong, IsWithin, AreTargets, target_of, AddsPlaces, HasTrigrams, AddsTrigrams, IsJoined, AreKept}
 use Rattle.segments.proofs.SetLemmas.{has-append, has-filter, contains-has}
-use Rattle.segments.proofs.Members.{has_at, same_rising, All-has}
-use Rattle.segments.proofs.Rising.{rising-head, rising-tail, rising_far}
+use Rattle.segments.proofs.Members.{All-same, has_at, has_not, same_rising, All-has}
+use Rattle.segments.proofs.Rising.{rising_far}
+use Rattle.segments.proofs.Views.{numbers-contents_at}
 use Rattle.segments.proofs.TableLemmas.{places_absent}
 use Rattle.segments.proofs.Selecting.{has-at}
-use Rattle.segments.proofs.Building.{same_truth, has-dedup, trigrams-filter, no_content, AreKeysOf}
+use Rattle.segments.proofs.Building.{same_truth, has-dedup, trigrams-filter, no_content, few_contents, are_contents}
 
 -- ---- what a list of contents says
 
@@ -72,73 +72,30 @@ any_among f ps all within = same_truth (list_any (λ p. f p && has ps p) all) (l
         let at = contains-has all p (within p here) in
         list_any_at (λ r. f r && has ps r) all at.0 p at.1 (rw at.2 (both_true (f p) (has ps p) found.4 here))
 
--- ---- the keys of one segment
+-- ---- the places of one segment
 
 -- the target of the place is q
 abbrev hits : List (Option ℕ) → ℕ → ℕ → Bool
 hits targets q p = is_place (get_or targets p None) q
 
-no_any : (b : Bool) → false ≡ (b && false)
-no_any true = refl
-no_any false = refl
-
-has-set_keys : (targets : List (Option ℕ)) (t u q : ℕ) (ps : List ℕ) → ((p r : ℕ) → get_or targets p None ≡ Some r → r < 4294967296) → q < 4294967296
-    → has (filter_map (key_at_target t targets) ps) (key u q) ≡ (t == u && list_any (hits targets q) ps)
-has-set_keys targets t u q [] fits small = no_any (t == u)
-has-set_keys targets t u q (p ∷ ps) fits small = cases (get_or targets p None) refl (has-set_keys targets t u q ps fits small)
+has-targets : (targets : List (Option ℕ)) (q : ℕ) (ps : List ℕ) → has (filter_map (target_of targets) ps) q ≡ list_any (hits targets q) ps
+has-targets targets q [] = refl
+has-targets targets q (p ∷ ps) = cases (get_or targets p None) refl (has-targets targets q ps)
   where
-    both : (a b c : Bool) → ((a && b) || (a && c)) ≡ (a && (b || c))
-    both true b c = refl
-    both false b c = refl
-
-    cases : (o : Option ℕ) → get_or targets p None ≡ o → has (filter_map (key_at_target t targets) ps) (key u q) ≡ (t == u && list_any (hits targets q) ps)
-        → has (filter_map (key_at_target t targets) (p ∷ ps)) (key u q) ≡ (t == u && list_any (hits targets q) (p ∷ ps))
+    cases : (o : Option ℕ) → get_or targets p None ≡ o → has (filter_map (target_of targets) ps) q ≡ list_any (hits targets q) ps
+        → has (filter_map (target_of targets) (p ∷ ps)) q ≡ list_any (hits targets q) (p ∷ ps)
     cases None e later = rw e later
-    cases (Some r) e later =
-        rw e
-        (ap (λ b. b || has (filter_map (key_at_target t targets) ps) (key u q)) (same_key t u r q (fits p r e) small)
-        ∙ ap (λ b. (t == u && r == q) || b) later ∙ both (t == u) (r == q) (list_any (hits targets q) ps))
+    cases (Some r) e later = rw e (ap (λ b. r == q || b) later)
 
-has-target_keys : (targets : List (Option ℕ)) (sets : List PlaceSet) (u q : ℕ) → ((p r : ℕ) → get_or targets p None ≡ Some r → r < 4294967296)
-    → q < 4294967296 → IsStrictlyIncreasing (trigrams_of sets) → has (target_keys targets sets) (key u q) ≡ list_any (hits targets q) (places_of sets u)
-has-target_keys targets [] u q fits small rising = refl
-has-target_keys targets (s ∷ sets) u q fits small rising =
-    has-append (filter_map (key_at_target s.trigram targets) s.places) (target_keys targets sets) (key u q)
-    ∙ ap (λ b. b || has (target_keys targets sets) (key u q)) (has-set_keys targets s.trigram u q s.places fits small)
-    ∙ ap (λ b. (s.trigram == u && list_any (hits targets q) s.places) || b)
-    (has-target_keys targets sets u q fits small (rising-tail s.trigram (trigrams_of sets) rising))
-    ∙ cases (s.trigram == u) refl
+targets_below : (targets : List (Option ℕ)) (count : ℕ) (ps : List ℕ) → ((p r : ℕ) → get_or targets p None ≡ Some r → r < count)
+    → All (λ p. p < count) (filter_map (target_of targets) ps)
+targets_below targets count [] fits = All-nil (λ p. p < count)
+targets_below targets count (p ∷ ps) fits = cases (get_or targets p None) refl (targets_below targets count ps fits)
   where
-    cases : (b : Bool) → (s.trigram == u) ≡ b
-        → ((s.trigram == u && list_any (hits targets q) s.places) || list_any (hits targets q) (places_of sets u))
-        ≡ list_any (hits targets q) (places_of (s ∷ sets) u)
-    cases true e =
-        let is : s.trigram ≡ u = grind (arith, nat_tests) in
-        let others : All (λ t. t ≢ u) (trigrams_of sets) =
-        All-weaker (λ t. s.trigram < t) (λ t. t ≢ u) (λ t lt e'. omega (arith, lt, e', is)) (trigrams_of sets) (rising-head s.trigram (trigrams_of sets) rising) in
-        rw e (rw (places_absent sets u others) (or-false (list_any (hits targets q) s.places)))
-    cases false e = rw e refl
-
-set_keys_below : (targets : List (Option ℕ)) (count t : ℕ) (ps : List ℕ) → ((p r : ℕ) → get_or targets p None ≡ Some r → r < count)
-    → count ≤ 4294967296 → All (λ k. place_in k < count) (filter_map (key_at_target t targets) ps)
-set_keys_below targets count t [] fits few = All-nil (λ k. place_in k < count)
-set_keys_below targets count t (p ∷ ps) fits few = cases (get_or targets p None) refl (set_keys_below targets count t ps fits few)
-  where
-    cases : (o : Option ℕ) → get_or targets p None ≡ o → All (λ k. place_in k < count) (filter_map (key_at_target t targets) ps)
-        → All (λ k. place_in k < count) (filter_map (key_at_target t targets) (p ∷ ps))
+    cases : (o : Option ℕ) → get_or targets p None ≡ o → All (λ q. q < count) (filter_map (target_of targets) ps)
+        → All (λ q. q < count) (filter_map (target_of targets) (p ∷ ps))
     cases None e later = rw e later
-    cases (Some r) e later =
-        let lt = fits p r e in
-        rw e
-        (All-cons (λ k. place_in k < count) (key t r) (filter_map (key_at_target t targets) ps)
-        (rw (place_in-key t r (omega (arith, lt, few))) lt) later)
-
-target_keys_below : (targets : List (Option ℕ)) (count : ℕ) (sets : List PlaceSet) → ((p r : ℕ) → get_or targets p None ≡ Some r → r < count)
-    → count ≤ 4294967296 → All (λ k. place_in k < count) (target_keys targets sets)
-target_keys_below targets count [] fits few = All-nil (λ k. place_in k < count)
-target_keys_below targets count (s ∷ sets) fits few =
-    All-append (λ k. place_in k < count) (filter_map (key_at_target s.trigram targets) s.places) (target_keys targets sets)
-    (set_keys_below targets count s.trigram s.places fits few) (target_keys_below targets count sets fits few)
+    cases (Some r) e later = rw e (All-cons (λ q. q < count) r (filter_map (target_of targets) ps) (fits p r e) later)
 
 below_has : (n p : ℕ) → p < n → has (numbers_below n) p ≡ true
 unfolding numbers_below
@@ -179,7 +136,15 @@ some_differs : (r : ℕ) → Some r ≡ None → ⊥
 unfolding is_nothing
 some_differs r e = false≢true (ap is_nothing e)
 
-module _ (from numbers : List ℕ) (targets : List (Option ℕ)) (sets : List PlaceSet) (seg : IsSegment from sets) (few : length numbers ≤ 4294967296)
+places_inside : (from : List ℕ) (sets : List PlaceSet) → IsSegment from sets → (t p : ℕ) → has (places_of sets t) p ≡ true → p < length from
+places_inside from sets seg t p there = inside_sets (length from) sets t p seg.below there
+
+pub all_inside : (from : List ℕ) (sets : List PlaceSet) → IsSegment from sets → (t : ℕ) → All (λ p. p < length from) (places_of sets t)
+all_inside from sets seg t =
+    All-from_get_or (λ p. p < length from) (places_of sets t) 0
+    (λ i inside. places_inside from sets seg t (get_or (places_of sets t) i 0) (has_at (places_of sets t) i (get_or (places_of sets t) i 0) inside refl))
+
+module _ (from numbers : List ℕ) (targets : List (Option ℕ)) (sets : List PlaceSet) (seg : IsSegment from sets)
     (h : AreTargets from numbers targets) where
   fits : (p r : ℕ) → get_or targets p None ≡ Some r → r < length numbers
   fits p r is = cases (cases_lt p (length targets))
@@ -188,23 +153,18 @@ module _ (from numbers : List ℕ) (targets : List (Option ℕ)) (sets : List Pl
       cases (inl inside) = let within : IsWithin (length numbers) (get_or targets p None) = h.within p None inside in rw is at within
       cases (inr past) = absurd (some_differs r (sym is ∙ get_or_past targets p None past))
 
-  places_inside : (t p : ℕ) → has (places_of sets t) p ≡ true → p < length from
-  places_inside t p there = inside_sets (length from) sets t p seg.below there
-
-  all_inside : (t : ℕ) → All (λ p. p < length from) (places_of sets t)
-  all_inside t = All-from_get_or (λ p. p < length from) (places_of sets t) 0 (λ i inside. places_inside t (get_or (places_of sets t) i 0) (has_at (places_of sets t) i (get_or (places_of sets t) i 0) inside refl))
-
-  -- the keys say what the segment says
-  keys_say : (t q : ℕ) → q < length numbers → has (target_keys targets sets) (key t q) ≡ says (contents_at from sets) (get_or numbers q 0) t
+  -- the targets say what the segment says
+  places_say : (t q : ℕ) → q < length numbers
+      → has (filter_map (target_of targets) (places_of sets t)) q ≡ says (contents_at from sets) (get_or numbers q 0) t
   unfolding contents_at
-  keys_say t q inside =
+  places_say t q inside =
       let ps = places_of sets t in
       let n = get_or numbers q 0 in
       let all = numbers_below (length from) in
       let f : ℕ → Bool = λ p. get_or from p 0 == n in
-      has-target_keys targets sets t q (λ p r is. omega (arith, fits p r is, few)) (omega (arith, inside, few)) seg.trigrams
-      ∙ any_agree (λ p. p < length from) (hits targets q) f ps (all_inside t) (λ p low. h.places p low q inside)
-      ∙ sym (any_among f ps all (λ p there. all_below p (places_inside t p there)))
+      has-targets targets q ps
+      ∙ any_agree (λ p. p < length from) (hits targets q) f ps (all_inside from sets seg t) (λ p low. h.places p low q inside)
+      ∙ sym (any_among f ps all (λ p there. all_below p (places_inside from sets seg t p there)))
       ∙ any_agree (λ p. Unit {0}) (λ p. f p && has ps p) (λ p. f p && has (trigrams_at sets p) t) all (λ k d low. tt)
       (λ p u. ap (λ b. f p && b) (sym (has-at sets p t seg.trigrams)))
       ∙ sym (list_any-map (λ (c : Content). c.number == n && has c.trigrams t) (content_at from sets) all)
@@ -212,36 +172,113 @@ module _ (from numbers : List ℕ) (targets : List (Option ℕ)) (sets : List Pl
       all_below : (p : ℕ) → p < length from → has (numbers_below (length from)) p ≡ true
       all_below p low = below_has (length from) p low
 
-  pub adds_segment : (old new : List ℕ) → new ≡ old ++ target_keys targets sets → AddsKept numbers (contents_at from sets) old new
-  adds_segment old new is = record {
-    same = λ t q inside. ap (λ ks. has ks (key t q)) is ∙ has-append old (target_keys targets sets) (key t q) ∙ ap (λ b. has old (key t q) || b) (keys_say t q inside);
-    below = λ below. rw is (All-append (λ k. place_in k < length numbers) old (target_keys targets sets) below (target_keys_below targets (length numbers) sets fits few));
-    trigrams = rising_contents from sets seg.trigrams;
-  }
+pub adds_segment : (from : List ℕ) (targets : List (Option ℕ)) (sets : List PlaceSet) → IsSegment from sets → (t : ℕ) (old new : List ℕ)
+    → new ≡ old ++ filter_map (target_of targets) (places_of sets t) → AddsPlaces t targets (contents_at from sets) old new
+adds_segment from targets sets seg t old new is = record {
+  same = λ numbers h q inside.
+      ap (λ ps. has ps q) is ∙ has-append old (filter_map (target_of targets) (places_of sets t)) q
+      ∙ ap (λ b. has old q || b) (places_say from numbers targets sets seg (rw (numbers-contents_at from sets) at h) t q inside);
+  below = λ numbers h below.
+      rw is
+      (All-append (λ p. p < length numbers) old (filter_map (target_of targets) (places_of sets t)) below
+      (targets_below targets (length numbers) (places_of sets t)
+      (fits from numbers targets sets seg (rw (numbers-contents_at from sets) at h))));
+}
+
+-- ---- the trigrams of one segment
+
+there_is : (sets : List PlaceSet) (t p : ℕ) → IsStrictlyIncreasing (trigrams_of sets) → has (trigrams_at sets p) t ≡ true → has (trigrams_of sets) t ≡ true
+there_is sets t p rising there = cases (has (trigrams_of sets) t) refl
+  where
+    cases : (b : Bool) → has (trigrams_of sets) t ≡ b → has (trigrams_of sets) t ≡ true
+    cases true e = e
+    cases false e =
+        let none : has (places_of sets t) p ≡ false = ap (λ ps. has ps p) (places_absent sets t (has_not (trigrams_of sets) t e)) in
+        absurd (false≢true (sym none ∙ sym (has-at sets p t rising) ∙ there))
+
+segment_has : (from : List ℕ) (sets : List PlaceSet) → IsStrictlyIncreasing (trigrams_of sets) → (n t : ℕ) → says (contents_at from sets) n t ≡ true
+    → has (trigrams_of sets) t ≡ true
+unfolding contents_at
+segment_has from sets rising n t said =
+    let Q : Content → Type 0 = λ c. has c.trigrams t ≡ true → has (trigrams_of sets) t ≡ true in
+    let all : All Q (contents_at from sets) =
+    All-map Q (content_at from sets) (numbers_below (length from))
+    (λ k d inside there. there_is sets t (get_or (numbers_below (length from)) k d) rising there) in
+    let test : Content → Bool = λ c. c.number == n && has c.trigrams t in
+    let found = Any-from_list_any test (contents_at from sets) said in
+    All-contains Q (contents_at from sets) found.1 all (found.0, found.2, found.3) (right_true (found.1.number == n) (has found.1.trigrams t) found.4)
+
+pub adds_trigrams : (from : List ℕ) (sets : List PlaceSet) → IsSegment from sets → (old new : List ℕ) → new ≡ old ++ trigrams_of sets
+    → AddsTrigrams (contents_at from sets) old new
+adds_trigrams from sets seg old new is = record {
+  still = λ t there. ap (λ ts. has ts t) is ∙ has-append old (trigrams_of sets) t ∙ ap (λ b. b || has (trigrams_of sets) t) there;
+  added = record {
+    all = λ n t said.
+        ap (λ ts. has ts t) is ∙ has-append old (trigrams_of sets) t ∙ ap (λ b. has old t || b) (segment_has from sets seg.trigrams n t said)
+        ∙ or-true (has old t);
+    rising = rising_contents from sets seg.trigrams;
+  };
+}
 
 -- ---- several segments
-
-pub adds_none : (numbers : List ℕ) → AddsKept numbers [] [] []
-adds_none numbers = record {
-  same = λ t q inside. refl;
-  below = λ below. below;
-  trigrams = All-nil (λ (c : Content). IsStrictlyIncreasing c.trigrams);
-}
 
 or_assoc : (a b c : Bool) → ((a || b) || c) ≡ (a || (b || c))
 or_assoc true b c = refl
 or_assoc false b c = refl
 
-adds_both : (numbers old mid new : List ℕ) (first second : List Content) → AddsKept numbers first old mid → AddsKept numbers second mid new
-    → AddsKept numbers (first ++ second) old new
-adds_both numbers old mid new first second h g = record {
-  same = λ t q inside.
-      g.same t q inside ∙ ap (λ b. b || says second (get_or numbers q 0) t) (h.same t q inside)
-      ∙ or_assoc (has old (key t q)) (says first (get_or numbers q 0) t) (says second (get_or numbers q 0) t)
-      ∙ ap (λ b. has old (key t q) || b) (sym (says-append first second (get_or numbers q 0) t));
-  below = λ below. g.below (h.below below);
-  trigrams = All-append (λ (c : Content). IsStrictlyIncreasing c.trigrams) first second h.trigrams g.trigrams;
+targets_first : (xs ys numbers : List ℕ) (ts us : List (Option ℕ)) → length ts ≡ length xs → AreTargets (xs ++ ys) numbers (ts ++ us)
+    → AreTargets xs numbers ts
+targets_first xs ys numbers ts us same h = record {
+  same = same;
+  within = All-from_get_or (IsWithin (length numbers)) ts None
+      (λ i inside. rw (get_or_append_left ts us None i inside) at (h.within i None (omega (arith, inside, length-append ts us))));
+  places = λ p inside.
+      rw (get_or_append_left xs ys 0 p inside, get_or_append_left ts us None p (omega (arith, inside, same))) at
+      (h.places p (omega (arith, inside, length-append xs ys)));
 }
+
+targets_second : (xs ys numbers : List ℕ) (ts us : List (Option ℕ)) → length ts ≡ length xs → AreTargets (xs ++ ys) numbers (ts ++ us)
+    → AreTargets ys numbers us
+targets_second xs ys numbers ts us same h = record {
+  same = omega (arith, same, h.same, length-append ts us, length-append xs ys);
+  within = All-from_get_or (IsWithin (length numbers)) us None
+      (λ i inside. rw (later_target i) at (h.within (length xs + i) None (omega (arith, inside, same, length-append ts us))));
+  places = λ p inside.
+      rw (later_number p, later_target p) at (h.places (length xs + p) (omega (arith, inside, length-append xs ys)));
+}
+  where
+    later_number : (p : ℕ) → get_or (xs ++ ys) (length xs + p) 0 ≡ get_or ys p 0
+    later_number p =
+        get_or-append_right xs ys (length xs) (length xs + p) 0 refl (omega arith)
+        ∙ ap (λ k. get_or ys k 0) (omega arith)
+
+    later_target : (p : ℕ) → get_or (ts ++ us) (length xs + p) None ≡ get_or us p None
+    later_target p =
+        get_or-append_right ts us (length xs) (length xs + p) None same (omega arith)
+        ∙ ap (λ k. get_or us k None) (omega arith)
+
+adds_both : (t : ℕ) (ts us : List (Option ℕ)) (first second : List Content) (old mid new : List ℕ) → length ts ≡ length first
+    → AddsPlaces t ts first old mid → AddsPlaces t us second mid new → AddsPlaces t (ts ++ us) (first ++ second) old new
+adds_both t ts us first second old mid new same h g = record {
+  same = λ numbers targets q inside.
+      let n = get_or numbers q 0 in
+      g.same numbers (of_second numbers targets) q inside ∙ ap (λ b. b || says second n t) (h.same numbers (of_first numbers targets) q inside)
+      ∙ or_assoc (has old q) (says first n t) (says second n t)
+      ∙ ap (λ b. has old q || b) (sym (says-append first second n t));
+  below = λ numbers targets below. g.below numbers (of_second numbers targets) (h.below numbers (of_first numbers targets) below);
+}
+  where
+    count : length ts ≡ length (numbers_of first)
+    count = same ∙ sym (length-map first (λ (c : Content). c.number))
+
+    parted : numbers_of (first ++ second) ≡ numbers_of first ++ numbers_of second
+    parted = map-append (λ (c : Content). c.number) first second
+
+    of_first : (numbers : List ℕ) → AreTargets (numbers_of (first ++ second)) numbers (ts ++ us) → AreTargets (numbers_of first) numbers ts
+    of_first numbers targets = targets_first (numbers_of first) (numbers_of second) numbers ts us count (rw parted at targets)
+
+    of_second : (numbers : List ℕ) → AreTargets (numbers_of (first ++ second)) numbers (ts ++ us) → AreTargets (numbers_of second) numbers us
+    of_second numbers targets = targets_second (numbers_of first) (numbers_of second) numbers ts us count (rw parted at targets)
 
 contents_more : (segments : List (Bor (List Content))) (i : ℕ) (s : Bor (List Content)) → i < length segments → s ≡ get_or segments i s
     → contents_in (take i segments) ++ s.now ≡ contents_in (take (i + 1) segments)
@@ -249,11 +286,77 @@ contents_more segments i s inside is =
     flat_map_more (λ (r : Bor (List Content)). r.now) [] (take i segments) s
     ∙ ap contents_in (sym (take_more segments i s inside ∙ ap (λ (r : Bor (List Content)). take i segments ++ r ∷ []) (sym is)))
 
-pub adds_next : (numbers mid new : List ℕ) (segments : List (Bor (List Content))) (i : ℕ) (s : Bor (List Content)) → i < length segments
-    → s ≡ get_or segments i s → AddsKept numbers (contents_in (take i segments)) [] mid → AddsKept numbers s.now mid new
-    → AddsKept numbers (contents_in (take (i + 1) segments)) [] new
-adds_next numbers mid new segments i s inside is h g =
-    rw (contents_more segments i s inside is) at (adds_both numbers [] mid new (contents_in (take i segments)) s.now h g)
+-- what is found of the trigram, in order
+pub found_places : (numbers : List ℕ) (t : ℕ) (targets : List (Option ℕ)) (contents : List Content) (found sorted : List ℕ)
+    → AreTargets (numbers_of contents) numbers targets → AddsPlaces t targets contents [] found → ((p : ℕ) → has sorted p ≡ has found p)
+    → All (λ p. p < length numbers) sorted × ((q : ℕ) → q < length numbers → has sorted q ≡ says contents (get_or numbers q 0) t)
+found_places numbers t targets contents found sorted are adds same = (
+  All-same (λ p. p < length numbers) sorted found same (adds.below numbers are (All-nil (λ p. p < length numbers))),
+  λ q inside. same q ∙ adds.same numbers are q inside,
+)
+
+-- how many contents the first segments have
+pub few_in_first : (segments : List (Bor (List Content))) (i : ℕ) → length (contents_in (take i segments)) ≤ length (contents_in segments)
+few_in_first segments i =
+    let parts : contents_in (take i segments) ++ contents_in (drop i segments) ≡ contents_in segments =
+    sym (flat_map-append (λ (r : Bor (List Content)). r.now) (take i segments) (drop i segments)) ∙ ap contents_in (take-append-drop i segments) in
+    omega (arith, ap length parts, length-append (contents_in (take i segments)) (contents_in (drop i segments)))
+
+pub length_next : (segments : List (Bor (List Content))) (i : ℕ) (s : Bor (List Content)) → i < length segments → s ≡ get_or segments i s
+    → length (contents_in (take i segments)) + length s.now ≡ length (contents_in (take (i + 1) segments))
+length_next segments i s inside is = sym (length-append (contents_in (take i segments)) s.now) ∙ ap length (contents_more segments i s inside is)
+
+pub places_none : (t : ℕ) (targets : List (Option ℕ)) → AddsPlaces t (take 0 targets) [] [] []
+places_none t targets = record { same = λ numbers h q inside. refl; below = λ numbers h below. below }
+
+targets_taken : (ks : List (Option ℕ)) (s e : ℕ) → s ≤ e → take s ks ++ slice_range ks s e ≡ take e ks
+targets_taken ks s e le =
+    let is : s + (e - s) ≡ e = omega arith in
+    let second : drop s (take e ks) ≡ slice_range ks s e = rw is at (drop-take s (e - s) ks) in
+    sym (ap (λ r. r ++ slice_range ks s e) (take-take s e ks le)) ∙ ap (λ r. take s (take e ks) ++ r) (sym second) ∙ take-append-drop s (take e ks)
+
+pub places_next : (t : ℕ) (targets : List (Option ℕ)) (segments : List (Bor (List Content))) (i : ℕ) (s : Bor (List Content)) (start end : ℕ)
+    (mid new : List ℕ) → i < length segments → s ≡ get_or segments i s → start ≡ length (contents_in (take i segments)) → end ≡ start + length s.now
+    → length targets ≡ length (contents_in segments)
+    → AddsPlaces t (take start targets) (contents_in (take i segments)) [] mid → AddsPlaces t (slice_range targets start end) s.now mid new
+    → AddsPlaces t (take end targets) (contents_in (take (i + 1) segments)) [] new
+places_next t targets segments i s start end mid new inside is begin size whole h g =
+    let few = few_in_first segments i in
+    let count : length (take start targets) ≡ length (contents_in (take i segments)) =
+    omega (arith, length-take-le start targets (omega (arith, few, begin, whole)), begin) in
+    rw (targets_taken targets start end (omega (arith, size)), contents_more segments i s inside is) at
+    (adds_both t (take start targets) (slice_range targets start end) (contents_in (take i segments)) s.now [] mid new count h g)
+
+-- the trigrams of several segments
+pub trigrams_none : (trigrams : List ℕ) → HasTrigrams [] trigrams
+trigrams_none trigrams = record { all = λ n t said. absurd (false≢true said); rising = All-nil (λ (c : Content). IsStrictlyIncreasing c.trigrams) }
+
+either_true : (a b : Bool) (C : Type 0) → (a ≡ true → C) → (b ≡ true → C) → (a || b) ≡ true → C
+either_true true b C first second h = first refl
+either_true false b C first second h = second h
+
+pub trigrams_next : (segments : List (Bor (List Content))) (i : ℕ) (s : Bor (List Content)) (mid new : List ℕ) → i < length segments
+    → s ≡ get_or segments i s → HasTrigrams (contents_in (take i segments)) mid → AddsTrigrams s.now mid new
+    → HasTrigrams (contents_in (take (i + 1) segments)) new
+trigrams_next segments i s mid new inside is h g =
+    let both : HasTrigrams (contents_in (take i segments) ++ s.now) new = record {
+      all = λ n t said.
+          either_true (says (contents_in (take i segments)) n t) (says s.now n t) (has new t ≡ true) (λ one. g.still t (h.all n t one))
+          (λ other. g.added.all n t other) (sym (says-append (contents_in (take i segments)) s.now n t) ∙ said);
+      rising = All-append (λ (c : Content). IsStrictlyIncreasing c.trigrams) (contents_in (take i segments)) s.now h.rising g.added.rising;
+    } in
+    rw (contents_more segments i s inside is) at both
+
+pub same_trigrams : (contents : List Content) (old new : List ℕ) → ((t : ℕ) → has new t ≡ has old t) → HasTrigrams contents old → HasTrigrams contents new
+same_trigrams contents old new same h = record { all = λ n t said. same t ∙ h.all n t said; rising = h.rising }
+
+-- all numbers of the first segments
+pub numbers_more : (segments : List (Bor (List Content))) (i : ℕ) (s : Bor (List Content)) (mid new : List ℕ) → i < length segments
+    → s ≡ get_or segments i s → mid ≡ numbers_of (contents_in (take i segments)) → new ≡ mid ++ numbers_of s.now
+    → new ≡ numbers_of (contents_in (take (i + 1) segments))
+numbers_more segments i s mid new inside is h g =
+    g ∙ ap (λ ns. ns ++ numbers_of s.now) h
+    ∙ sym (map-append (λ (c : Content). c.number) (contents_in (take i segments)) s.now) ∙ ap numbers_of (contents_more segments i s inside is)
 
 pub numbers_next : (keep mid new : List ℕ) (segments : List (Bor (List Content))) (i : ℕ) (s : Bor (List Content)) → i < length segments
     → s ≡ get_or segments i s → mid ≡ filter (has keep) (numbers_of (contents_in (take i segments)))
@@ -280,7 +383,7 @@ content_or d (Some c) = c
 some_same : (d c : Content) → Some d ≡ Some c → d ≡ c
 some_same d c e = ap (content_or d) e
 
-find_number : (contents : List Content) (n : ℕ) (c : Content) → content_numbered contents n ≡ Some c → c.number ≡ n
+pub find_number : (contents : List Content) (n : ℕ) (c : Content) → content_numbered contents n ≡ Some c → c.number ≡ n
 find_number [] n c is = absurd (none_differs c is)
 find_number (d ∷ contents) n c is = cases (d.number == n) refl (find_number contents n c)
   where
@@ -290,7 +393,7 @@ find_number (d ∷ contents) n c is = cases (d.number == n) refl (find_number co
         sym (ap (λ (x : Content). x.number) (some_same d c (rw e at is))) ∙ found
     cases false e later = later (rw e at is)
 
-All-find : (P : Content → Type 0) (contents : List Content) (n : ℕ) (c : Content) → All P contents → content_numbered contents n ≡ Some c → P c
+pub All-find : (P : Content → Type 0) (contents : List Content) (n : ℕ) (c : Content) → All P contents → content_numbered contents n ≡ Some c → P c
 All-find P [] n c h is = absurd (none_differs c is)
 All-find P (d ∷ contents) n c h is = cases (d.number == n) refl (All-find P contents n c (All-tail P d contents h))
   where
@@ -307,7 +410,7 @@ has-number (d ∷ contents) n = cases (d.number == n) refl (has-number contents 
     cases true e later = rw e refl
     cases false e later = rw e later
 
-numbers-kept : (keep : List ℕ) (contents : List Content) → numbers_of (kept keep contents) ≡ filter (has (numbers_of contents)) keep
+pub numbers-kept : (keep : List ℕ) (contents : List Content) → numbers_of (kept keep contents) ≡ filter (has (numbers_of contents)) keep
 numbers-kept [] contents = refl
 numbers-kept (n ∷ keep) contents = cases (content_numbered contents n) refl (numbers-kept keep contents)
   where
@@ -316,7 +419,7 @@ numbers-kept (n ∷ keep) contents = cases (content_numbered contents n) refl (n
     cases None e later = rw (e, has-number contents n ∙ ap is_there e) later
     cases (Some c) e later = rw (e, has-number contents n ∙ ap is_there e) (ap (λ m. m ∷ numbers_of (kept keep contents)) (find_number contents n c e) ∙ ap (λ ns. n ∷ ns) later)
 
-All-kept : (P : Content → Type 0) (keep : List ℕ) (contents : List Content) → ((n : ℕ) (c : Content) → content_numbered contents n ≡ Some c → P c)
+pub All-kept : (P : Content → Type 0) (keep : List ℕ) (contents : List Content) → ((n : ℕ) (c : Content) → content_numbered contents n ≡ Some c → P c)
     → All P (kept keep contents)
 All-kept P [] contents h = All-nil P
 All-kept P (n ∷ keep) contents h = cases (content_numbered contents n) refl (All-kept P keep contents h)
@@ -332,10 +435,10 @@ says_absent (d ∷ contents) n t others =
     let is : (d.number == n) ≡ false = grind (arith, nat_tests) in
     rw is (says_absent contents n t (All-tail (λ m. m ≢ n) d.number (numbers_of contents) others))
 
-differ-tail : (c : Content) (contents : List Content) → AllDiffer (c ∷ contents) → AllDiffer contents
+pub differ-tail : (c : Content) (contents : List Content) → AllDiffer (c ∷ contents) → AllDiffer contents
 differ-tail c contents h i j d before inside = h (suc i) (suc j) d (omega (arith, before)) (omega (arith, inside))
 
-differ-head : (c : Content) (contents : List Content) → AllDiffer (c ∷ contents) → All (λ m. c.number ≢ m) (numbers_of contents)
+pub differ-head : (c : Content) (contents : List Content) → AllDiffer (c ∷ contents) → All (λ m. c.number ≢ m) (numbers_of contents)
 differ-head c contents h k d inside = h zero (suc k) d (omega arith) (omega (arith, inside))
 
 -- what is said of a number is said of its one content
@@ -376,18 +479,37 @@ module _ (keep numbers : List ℕ) (all : List Content) (differ : AllDiffer all)
   found_again = All-kept (λ (c : Content). content_numbered all c.number ≡ Some c) keep all
       (λ n c is. ap (content_numbered all) (find_number all n c is) ∙ is)
 
-  pub are_kept_keys : (keys : List ℕ) → AddsKept numbers all [] keys → AreKeysOf merged keys
-  are_kept_keys keys added =
-      let count : length numbers ≡ length merged = ap length kept_numbers_are ∙ length-map merged (λ (c : Content). c.number) in
-      record {
-        below = rw count at (added.below (All-nil (λ k. place_in k < length numbers)));
-        same = λ t i inside.
-            let c = get_or merged i no_content in
-            let number : get_or numbers i 0 ≡ c.number =
-            ap (λ ns. get_or ns i 0) kept_numbers_are ∙ get_or-map (λ (d : Content). d.number) merged i no_content 0 inside in
-            let low : i < length numbers = omega (arith, inside, count) in
-            added.same t i low ∙ ap (λ n. says all n t) number ∙ says_found all c.number t c differ (found_again i no_content inside);
-      }
+  -- the sets of the joined table are those of the contents that are kept
+  module _ (sets : List PlaceSet) (joined : IsJoined numbers all sets) where
+    few : length merged ≤ 4294967296
+    few = few_contents merged numbers kept_numbers_are h.small (kept_in_order joined.order)
+
+    count : length numbers ≡ length merged
+    count = ap length kept_numbers_are ∙ length-map merged (λ (c : Content). c.number)
+
+    pub joined_segment : IsSegment numbers sets
+    joined_segment = record {
+      numbers = h.rising;
+      small = h.small;
+      trigrams = joined.trigrams;
+      rising = joined.rising;
+      below = joined.below;
+    }
+
+    pub joined_contents : contents_at numbers sets ≡ merged
+    joined_contents =
+        rw kept_numbers_are
+        (are_contents merged sets (kept_in_order joined.order) few (record {
+          rising = joined.trigrams;
+          small = All-weaker (λ (s : PlaceSet). All (λ p. p < length numbers) s.places) (λ s. All (λ p. p < 4294967296) s.places)
+              (λ s below. All-weaker (λ p. p < length numbers) (λ p. p < 4294967296) (λ p lt. omega (arith, lt, few, count)) s.places below) sets joined.below;
+          same = λ t i inside.
+              let c = get_or merged i no_content in
+              let number : get_or numbers i 0 ≡ c.number =
+              ap (λ ns. get_or ns i 0) kept_numbers_are ∙ get_or-map (λ (d : Content). d.number) merged i no_content 0 inside in
+              joined.same t i (omega (arith, inside, count)) ∙ ap (λ n. says all n t) number
+              ∙ says_found all c.number t c differ (found_again i no_content inside);
+        }))
 
 -- ---- places among the numbers that are kept
 
@@ -471,28 +593,3 @@ numbers_kept keep all gathered sorted ready is moved once rising small = record 
     same n =
         ap (λ ns. has ns n) once ∙ has-dedup sorted n ∙ sym (list_any-IsPermutation (λ m. m == n) gathered sorted moved)
         ∙ ap (λ ns. has ns n) is ∙ has-filter (has keep) all n
-
--- a loop over sets
-pub target_keys-more : (targets : List (Option ℕ)) (sets : List PlaceSet) (i : ℕ) (keys : List ℕ) → i < length sets
-    → (keys ++ target_keys targets (take i sets)) ++ filter_map (key_at_target (get_or sets i no_set).trigram targets) (get_or sets i no_set).places
-    ≡ keys ++ target_keys targets (take (i + 1) sets)
-target_keys-more targets sets i keys inside =
-    flat_map_more (λ (s : PlaceSet). filter_map (key_at_target s.trigram targets) s.places) keys (take i sets) (get_or sets i no_set)
-    ∙ ap (λ us. keys ++ target_keys targets us) (sym (take_more sets i no_set inside))
-
--- a loop over the places of a set
-module _ (targets : List (Option ℕ)) (t : ℕ) (ps : List ℕ) (i : ℕ) (keys : List ℕ) (inside : i < length ps) where
-  next_place : filter_map (key_at_target t targets) (take (i + 1) ps)
-      ≡ filter_map (key_at_target t targets) (take i ps) ++ filter_map (key_at_target t targets) (get_or ps i 0 ∷ [])
-  next_place =
-      ap (filter_map (key_at_target t targets)) (take_more ps i 0 inside)
-      ∙ filter_map-append (key_at_target t targets) (take i ps) (get_or ps i 0 ∷ [])
-
-  pub set_keys-some : (r : ℕ) → get_or targets (get_or ps i 0) None ≡ Some r
-      → (keys ++ filter_map (key_at_target t targets) (take i ps)) ++ key t r ∷ [] ≡ keys ++ filter_map (key_at_target t targets) (take (i + 1) ps)
-  set_keys-some r is =
-      rw next_place (rw is (append_assoc keys (filter_map (key_at_target t targets) (take i ps)) (key t r ∷ [])))
-
-  pub set_keys-none : get_or targets (get_or ps i 0) None ≡ None
-      → keys ++ filter_map (key_at_target t targets) (take i ps) ≡ keys ++ filter_map (key_at_target t targets) (take (i + 1) ps)
-  set_keys-none is = rw next_place (rw is (ap (λ ks. keys ++ ks) (sym (append-nil (filter_map (key_at_target t targets) (take i ps))))))

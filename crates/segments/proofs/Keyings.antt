@@ -5,10 +5,10 @@ use Rattle.std.specs.Prelude.{All, filter}
 use Rattle.std.specs.List.Sorted.{IsStrictlyIncreasing}
 use Rattle.std.proofs.Math.Path.{fun_ext}
 use Rattle.std.proofs.Math.Bool.{or-false, and-false, and-true}
-use Rattle.std.proofs.lemmas.Bool.{cases_lt, false≢true, and_parts}
+use Rattle.std.proofs.lemmas.Bool.{cases_lt, and_parts}
 use Rattle.std.proofs.lemmas.Bool.Decides.{nat_tests}
 use Rattle.std.proofs.lemmas.List.{map-append, get_or_append_left, get_or_push, get_or-map, length-map, ext_get_or}
-use Rattle.std.proofs.lemmas.List.Elements.{All-nil, All-cons, All-append, All-map, All-weaker, All-filter, All-from_get_or}
+use Rattle.std.proofs.lemmas.List.Elements.{All-nil, All-cons, All-append, All-map, All-weaker, All-filter}
 use Rattle.std.proofs.lemmas.List.Kept.{IsStrictlyIncreasing-filter}
 use Rattle.query.specs.Trigrams.{trigrams_of_body, trigrams_of_text}
 use Rattle.query.specs.Private.Feeds.{has_no_line_feed}
@@ -20,7 +20,8 @@ use Rattle.segments.specs.Private.Keys.{key, trigram_in, place_in}
 use Rattle.segments.specs.Private.Keyed.{trigrams_keyed, content_keyed, contents_keyed, AreKeyed, keys_at, AddsBody}
 use Rattle.segments.proofs.KeyLemmas.{trigram_in-key, place_in-key}
 use Rattle.segments.proofs.SetLemmas.{has-append, has-filter}
-use Rattle.segments.proofs.Members.{has_at, lacks_from_all, lacks_above, same_rising}
+use Rattle.segments.proofs.Members.{All-same, lacks_from_all, lacks_above, same_rising}
+use Rattle.segments.proofs.OrderLemmas.{places_rise}
 use Rattle.segments.proofs.Rising.{rising-push}
 use Rattle.segments.proofs.Searching.{numbers_below-none, numbers_below-more, are_below, numbers_below-rising}
 use Rattle.segments.proofs.BitLemmas.{has_below, below_at}
@@ -160,19 +161,8 @@ module _ (ns keys added ts : List ℕ) (n : ℕ) (are : AreKeyed ns keys) (fits 
             (All-map (λ k. trigram_in k < 16777216) (λ t. key t (length ns)) added
             (All-weaker (λ t. t < 16777216) (λ t. trigram_in (key t (length ns)) < 16777216)
             (λ t lt. omega (arith, lt, trigram_in-key t (length ns) fits)) added few));
+        order = places_rise keys (length ns) added fits are.places are.order;
       }
-
--- what is in a list of which all members are small is small
-pub All-same : (added ts : List ℕ) → ((t : ℕ) → has added t ≡ has ts t) → All (λ t. t < 16777216) ts → All (λ t. t < 16777216) added
-All-same added ts same small =
-    All-from_get_or (λ t. t < 16777216) added 0
-    (λ i inside. let t = get_or added i 0 in by_size t (sym (same t) ∙ has_at added i t inside refl) (cases_lt t 16777216))
-  where
-    by_size : (t : ℕ) → has ts t ≡ true → (t < 16777216) ⊎ (16777216 ≤ t) → t < 16777216
-    by_size t there (inl lt) = lt
-    by_size t there (inr ge) =
-        absurd (false≢true
-        (sym (lacks_above ts t (All-weaker (λ u. u < 16777216) (λ u. u < t) (λ u lt. omega (arith, lt, ge)) ts small)) ∙ there))
 
 -- ---- no content
 
@@ -186,6 +176,7 @@ none_keyed = record {
   small = All-nil (λ n. n < 4294967296);
   places = All-nil (λ k. place_in k < 0);
   trigrams = All-nil (λ k. trigram_in k < 16777216);
+  order = λ i j d le inside. absurd (omega (arith, inside));
 }
 
 -- ---- the contents as those of a segment
@@ -250,7 +241,7 @@ module _ (ns keys new added ts : List ℕ) (view : List Content) (n place : ℕ)
   pub with_content : AreKeyed (ns ++ n ∷ []) new × (contents_keyed (ns ++ n ∷ []) new ≡ view ++ known_content n ts ∷ [])
   with_content =
       let new_is : new ≡ keys ++ keys_at (length ns) added = is ∙ ap (λ p. keys ++ keys_at p added) next in (
-        rw new_is (still_keyed ns keys added ts n are there_is_place rising small same numbers_above low (All-same added ts same small)),
+        rw new_is (still_keyed ns keys added ts n are there_is_place rising small same numbers_above low (All-same (λ t. t < 16777216) added ts same small)),
         ap (contents_keyed (ns ++ n ∷ [])) new_is ∙ more_contents ns keys added ts n are there_is_place rising small same
             ∙ ap (λ cs. cs ++ known_content n ts ∷ []) view_is,
       )

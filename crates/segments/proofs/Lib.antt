@@ -14,6 +14,8 @@ pub mod Selecting
 pub mod Counting
 pub mod Views
 pub mod Joining
+pub mod Joined
 pub mod Marking
+pub mod OrderLemmas
 pub mod Keyings
 pub mod KnownLemmas

@@ -7,6 +7,7 @@ use Rattle.std.specs.Ordering.{nat_cmp}
 use Rattle.std.proofs.lemmas.List.Sorted.{searched}
 use Rattle.std.proofs.lemmas.Bool.{eq-eqb, false≢true, cases_lt}
 use Rattle.std.proofs.lemmas.Bool.Decides.{nat_tests}
+use Rattle.std.proofs.Math.Bool.{or-true}
 use Rattle.std.proofs.lemmas.List.Folds.{list_any_at, list_any_none}
 use Rattle.std.proofs.lemmas.List.Elements.{All-cons, All-head, All-tail, All-weaker, All-from_get_or}
 use Rattle.segments.specs.Contents.{has}
@@ -45,6 +46,25 @@ All-has P (x ∷ xs) n all there = cases (x == n) refl (All-has P xs n (All-tail
     cases : (t : Bool) → (x == n) ≡ t → (has xs n ≡ true → P n) → P n
     cases true e later = let same : x ≡ n = grind (arith, nat_tests) in rw same at (All-head P x xs all)
     cases false e later = later (rw e at there)
+
+-- where two tests agree on the numbers of a list
+pub filter_agree_in : (p q : ℕ → Bool) (xs : List ℕ) → ((n : ℕ) → has xs n ≡ true → p n ≡ q n) → filter p xs ≡ filter q xs
+filter_agree_in p q [] agree = refl
+filter_agree_in p q (x ∷ xs) agree = cases (p x) (q x) refl refl (filter_agree_in p q xs (λ n there. agree n (rw there (or-true (x == n)))))
+  where
+    here : has (x ∷ xs) x ≡ true
+    here = rw (eq-eqb x x refl) refl
+
+    cases : (b c : Bool) → p x ≡ b → q x ≡ c → filter p xs ≡ filter q xs → filter p (x ∷ xs) ≡ filter q (x ∷ xs)
+    cases true true e f later = rw (e, f) (ap (λ zs. x ∷ zs) later)
+    cases false false e f later = rw (e, f) later
+    cases true false e f later = absurd (false≢true (sym f ∙ sym (agree x here) ∙ e))
+    cases false true e f later = absurd (false≢true (sym e ∙ agree x here ∙ f))
+
+-- what holds for all of one list holds for all of another with the same numbers
+pub All-same : (P : ℕ → Type 0) (xs ys : List ℕ) → ((n : ℕ) → has xs n ≡ has ys n) → All P ys → All P xs
+All-same P xs ys same all =
+    All-from_get_or P xs 0 (λ i inside. let n = get_or xs i 0 in All-has P ys n all (sym (same n) ∙ has_at xs i n inside refl))
 
 pub filter_all : (p : ℕ → Bool) (xs : List ℕ) → All (λ m. p m ≡ true) xs → filter p xs ≡ xs
 filter_all p [] h = refl

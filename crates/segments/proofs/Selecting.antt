@@ -61,13 +61,13 @@ chosen_below sets formula count = All-filter (λ p. is_met formula (trigrams_wit
 
 -- ---- from places to numbers
 
-module _ (numbers : List ℕ) (sets : List PlaceSet) (formula : Formula) (all places : List ℕ) (count : ℕ) (counted : count ≡ length numbers)
-    (all_is : all ≡ numbers_below count) (chosen_is : places ≡ chosen sets formula all) where
+module _ (numbers : List ℕ) (sets : List PlaceSet) (formula : Formula) (places : List ℕ) (count : ℕ) (counted : count ≡ length numbers)
+    (chosen_is : places ≡ chosen sets formula (numbers_below count)) where
   pub places_fit : All (λ p. p < length numbers) places
-  places_fit = rw (chosen_is, all_is, counted) (chosen_below sets formula (length numbers))
+  places_fit = rw (chosen_is, counted) (chosen_below sets formula (length numbers))
 
   pub all_selected_at : (found : List ℕ) → IsStrictlyIncreasing (trigrams_of sets) → found ≡ map (λ p. get_or numbers p 0) places
       → found ≡ selected formula (contents_at numbers sets)
   all_selected_at found rising is =
-      is ∙ ap (map (λ p. get_or numbers p 0)) (chosen_is ∙ ap (chosen sets formula) (all_is ∙ ap numbers_below counted))
+      is ∙ ap (map (λ p. get_or numbers p 0)) (chosen_is ∙ ap (λ n. chosen sets formula (numbers_below n)) counted)
       ∙ numbers_selected numbers sets formula rising

@@ -7,12 +7,12 @@ use Rattle.std.specs.List.Sorted.{IsStrictlyIncreasing}
 use Rattle.std.specs.declared.alloc.Global.{Global}
 use Rattle.std.specs.declared.vec.Vec.{Vec}
 use Rattle.std.specs.declared.boxed.Box.{Box}
-use Rattle.std.proofs.lemmas.Bool.{false≢true, eq-eqb}
-use Rattle.std.proofs.lemmas.List.{take_all}
-use Rattle.std.proofs.lemmas.List.Elements.{filter_agree, All-filter}
+use Rattle.std.proofs.lemmas.Bool.{false≢true}
+use Rattle.std.proofs.lemmas.List.{take_all, nil_from_length}
+use Rattle.std.proofs.lemmas.List.Elements.{filter_agree, All-nil, All-head, All-tail, All-filter}
 use Rattle.std.proofs.lemmas.List.Kept.{IsStrictlyIncreasing-filter}
 use Rattle.std.proofs.lemmas.List.Folds.{list_all_more, list_any_more}
-use Rattle.std.proofs.Math.Bool.{and-false, or-true}
+use Rattle.std.proofs.Math.Bool.{and-false}
 use Rattle.query.specs.declared.pairs.Pairs.{Pairs}
 use Rattle.query.specs.Trigrams.{TrigramSet, has_all_trigrams}
 use Rattle.query.specs.Texts.{Texts, texts_of, has_all_of_one}
@@ -23,9 +23,11 @@ use Rattle.query.specs.Query.{texts, all_of, one_of, formula_of, formulas_of, is
 use Rattle.query.proofs.Forms.{formula_of-Any, formula_of-None, formula_of-Has, formula_of-Pairs, formula_of-And, formula_of-Or}
 use Rattle.segments.specs.Contents.{has}
 use Rattle.segments.specs.Private.Table.{PlaceSet, places_of}
-use Rattle.segments.specs.Private.Selection.{Rises, chosen, trigrams_with}
+use Rattle.segments.specs.Private.Below.{numbers_below}
+use Rattle.segments.specs.Private.Selection.{Rises, Fits, chosen, trigrams_with}
 use Rattle.segments.proofs.SetLemmas.{has-filter}
-use Rattle.segments.proofs.Members.{filter_all, filter_none}
+use Rattle.segments.proofs.BitLemmas.{among_below}
+use Rattle.segments.proofs.Members.{filter_all, filter_none, filter_agree_in}
 
 pub chosen-Any : (sets : List PlaceSet) (xs : List ℕ) → chosen sets (formula_of query.Any) xs ≡ xs
 unfolding is_met
@@ -76,20 +78,6 @@ one_met-list sets (q ∷ members) n = ap (λ b. is_met_by sets n q || b) (one_me
 any_text : (set : TrigramSet) (vecs : List (Vec ℕ Global)) → list_any (λ text. has_all_trigrams text.items set) vecs ≡ has_all_of_one (texts_of vecs) set
 any_text set [] = refl
 any_text set (text ∷ vecs) = ap (λ b. has_all_trigrams text.items set || b) (any_text set vecs)
-
--- where two tests agree on the numbers of a list
-pub filter_agree_in : (p q : ℕ → Bool) (xs : List ℕ) → ((n : ℕ) → has xs n ≡ true → p n ≡ q n) → filter p xs ≡ filter q xs
-filter_agree_in p q [] agree = refl
-filter_agree_in p q (x ∷ xs) agree = cases (p x) (q x) refl refl (filter_agree_in p q xs (λ n there. agree n (rw there (or-true (x == n)))))
-  where
-    here : has (x ∷ xs) x ≡ true
-    here = rw (eq-eqb x x refl) refl
-
-    cases : (b c : Bool) → p x ≡ b → q x ≡ c → filter p xs ≡ filter q xs → filter p (x ∷ xs) ≡ filter q (x ∷ xs)
-    cases true true e f later = rw (e, f) (ap (λ zs. x ∷ zs) later)
-    cases false false e f later = rw (e, f) later
-    cases true false e f later = absurd (false≢true (sym f ∙ sym (agree x here) ∙ e))
-    cases false true e f later = absurd (false≢true (sym e ∙ agree x here ∙ f))
 
 pub filter_twice : (p q : ℕ → Bool) (xs : List ℕ) → filter p (filter q xs) ≡ filter (λ n. q n && p n) xs
 filter_twice p q [] = refl
@@ -162,6 +150,23 @@ narrowed_more test members first i member numbers found fewer inside is h less =
         ∙ ap (λ b. first_passes (test n) members first && b)
         (ap (λ q. list_all (test n) (take i members) && test n q) is ∙ sym (list_all_more (test n) members i member inside))
 
+again : (a b : Bool) → (a && b) ≡ (a && (b && a))
+again true true = refl
+again true false = refl
+again false b = refl
+
+-- the first member need not be looked at again
+pub narrowed_same : {X : Type 0} (test : ℕ → X → Bool) (members : List X) (first i : ℕ) (member : X) (numbers found : List ℕ)
+    → i < length members → i ≡ first → found ≡ narrowed test members first i numbers → found ≡ narrowed test members first (i + 1) numbers
+narrowed_same test members first i member numbers found inside same h =
+    h ∙ filter_agree (λ n. some_pass (test n) members first i) (λ n. some_pass (test n) members first (i + 1))
+    (λ n.
+    let passes : first_passes (test n) members first ≡ test n (get_or members i member) =
+    ap (first_passes (test n) members) (sym same) ∙ first_at (test n) members i member inside in
+    again (first_passes (test n) members first) (list_all (test n) (take i members))
+    ∙ ap (λ b. first_passes (test n) members first && (list_all (test n) (take i members) && b)) passes
+    ∙ ap (λ b. first_passes (test n) members first && b) (sym (list_all_more (test n) members i member inside))) numbers
+
 implied : (a b : Bool) → (a ≡ false → b ≡ false) → (a && b) ≡ b
 implied true b h = refl
 implied false b h = sym (h refl)
@@ -171,6 +176,32 @@ first_of_all : {X : Type 0} (test : X → Bool) (members : List X) (first : ℕ)
 first_of_all test [] first fails = absurd (false≢true (sym fails))
 first_of_all test (q ∷ members) zero fails = rw fails refl
 first_of_all test (q ∷ members) (suc first) fails = rw (first_of_all test members first fails) (and-false (test q))
+
+-- if one of the members before a place does not pass, not all do
+some_of_all : {X : Type 0} (test : X → Bool) (members : List X) (i : ℕ) → list_all test (take i members) ≡ false → list_all test members ≡ false
+some_of_all test members zero fails = absurd (false≢true (sym fails))
+some_of_all test [] (suc i) fails = absurd (false≢true (sym fails))
+some_of_all test (q ∷ members) (suc i) fails = cases (test q) refl (some_of_all test members i)
+  where
+    cases : (b : Bool) → test q ≡ b → (list_all test (take i members) ≡ false → list_all test members ≡ false) → list_all test (q ∷ members) ≡ false
+    cases true e later = rw e (later (rw e at fails))
+    cases false e later = rw e refl
+
+either_fails : (a b c : Bool) → (a ≡ false → c ≡ false) → (b ≡ false → c ≡ false) → ((a && b) && c) ≡ c
+either_fails true true c f g = refl
+either_fails true false c f g = sym (g refl)
+either_fails false b c f g = sym (f refl)
+
+-- where nothing is left, nothing passes the other members either
+pub narrowed_empty : {X : Type 0} (test : ℕ → X → Bool) (members : List X) (first i : ℕ) (numbers found : List ℕ) → length found ≡ 0
+    → found ≡ narrowed test members first i numbers → found ≡ filter (λ n. list_all (test n) members) numbers
+narrowed_empty test members first i numbers found none h =
+    let empty : found ≡ [] = nil_from_length found none in
+    let all : ℕ → Bool = λ n. list_all (test n) members in
+    empty ∙ sym (ap (filter all) (sym h ∙ empty)) ∙ filter_twice all (λ n. some_pass (test n) members first i) numbers
+    ∙ filter_agree (λ n. some_pass (test n) members first i && all n) all
+    (λ n. either_fails (first_passes (test n) members first) (list_all (test n) (take i members)) (all n)
+    (first_of_all (test n) members first) (some_of_all (test n) members i)) numbers
 
 -- what is found rises
 pub narrowed-rising : (p : ℕ → Bool) (numbers found : List ℕ) → found ≡ filter p numbers → IsStrictlyIncreasing numbers → IsStrictlyIncreasing found
@@ -258,3 +289,20 @@ pub text_narrowed : (sets : List PlaceSet) (ts text numbers found : List ℕ) �
     → found ≡ filter (λ n. list_all (trigrams_with sets n) ts) numbers → found ≡ filter (λ n. has_all_trigrams text (trigrams_with sets n)) numbers
 text_narrowed sets ts text numbers found same h =
     h ∙ filter_agree (λ n. list_all (trigrams_with sets n) ts) (λ n. has_all_trigrams text (trigrams_with sets n)) (λ n. same (trigrams_with sets n)) numbers
+
+-- ---- one set alone
+
+of_set : (P : List ℕ → Type 0) (sets : List PlaceSet) (t : ℕ) → P [] → All (λ s. P s.places) sets → P (places_of sets t)
+of_set P [] t none all = none
+of_set P (s ∷ sets) t none all = cases (s.trigram == t) refl (of_set P sets t none (All-tail (λ (r : PlaceSet). P r.places) s sets all))
+  where
+    cases : (b : Bool) → (s.trigram == t) ≡ b → P (places_of sets t) → P (places_of (s ∷ sets) t)
+    cases true e later = rw e (All-head (λ (r : PlaceSet). P r.places) s sets all)
+    cases false e later = rw e later
+
+-- of all places, those that have a trigram are its set
+pub set_of_all : (count : ℕ) (sets : List PlaceSet) (t : ℕ) → Fits count sets → filter (has (places_of sets t)) (numbers_below count) ≡ places_of sets t
+set_of_all count sets t fits =
+    among_below count (places_of sets t)
+    (of_set IsStrictlyIncreasing sets t (λ k inside. absurd (omega (arith, inside))) fits.rising)
+    (of_set (All (λ p. p < count)) sets t (All-nil (λ p. p < count)) fits.below)

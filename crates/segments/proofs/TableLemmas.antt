@@ -1,13 +1,14 @@
 -- Sets of places as they lie in memory.
 use Rattle.std.proofs.Common.{◌≡◌, ◌≢◌, ℕ, zero, suc, ◌+◌, ◌-◌, ◌<◌, ◌≤◌, List, [], ◌∷◌, ◌++◌, length, get_or, take, drop, refl, sym, ap, ◌∙◌, arith, length-append, false, ◌==◌}
-use Rattle.std.specs.Prelude.{All}
-use Rattle.std.specs.List.{slice_range}
+use Rattle.std.specs.Prelude.{All, min}
+use Rattle.std.specs.List.{slice_range, sum_by}
+use Rattle.std.proofs.lemmas.List.Sums.{sum_by_push}
 use Rattle.std.specs.List.Sorted.{IsStrictlyIncreasing}
 use Rattle.std.proofs.lemmas.Bool.Decides.{nat_tests}
 use Rattle.std.proofs.lemmas.Bool.{eq-eqb}
-use Rattle.std.proofs.lemmas.List.{take-append-le, drop-append-le, take_all, drop_all, length-drop, length-map, get_or-map}
+use Rattle.std.proofs.lemmas.List.{take-append-le, drop-append-le, take_all, drop_all, length-drop}
 use Rattle.std.proofs.lemmas.List.Elements.{All-nil, All-cons, All-head, All-tail}
-use Rattle.segments.specs.Private.Table.{PlaceSet, Laid, laid, no_set, place_set, places_of, trigrams_of, sets_from, last_end, begin_at, AreEnds, AreSpelled, IsTable}
+use Rattle.segments.specs.Private.Table.{PlaceSet, Laid, laid, place_set, places_of, trigrams_of, places_in_all, sets_from, last_end, begin_at, AreEnds, AreSpelled, IsTable}
 use Rattle.segments.specs.Private.PlaceBytes.{set_bytes, places_in, AreBelow, IsPlaceBytes}
 use Rattle.segments.proofs.PlaceLemmas.{places_again, are_place_bytes}
 use Rattle.segments.proofs.Rising.{rising-head, rising-tail, rising-push}
@@ -98,6 +99,9 @@ empty_table n few = record {
   spelled = tt;
 }
 
+pub none_counted : (n : ℕ) (ps : List ℕ) → 0 ≡ places_in_all (sets_from n 0 [] [] ps)
+none_counted n ps = ap places_in_all (sym (no_sets n ps))
+
 module _ (n : ℕ) (ts es ps : List ℕ) (t : ℕ) (places : List ℕ) (h : IsTable n ts es ps) (below : AreBelow n places) where
   abbrev more : List ℕ
   more = set_bytes n places
@@ -130,6 +134,14 @@ module _ (n : ℕ) (ts es ps : List ℕ) (t : ℕ) (places : List ℕ) (h : IsTa
         whole = last_end-push 0 es (length (ps ++ more));
         spelled = spelled-push n 0 es (length (ps ++ more)) (ps ++ more) (spelled-more n 0 es ps more h.ends h.spelled) (rw last (are_place_bytes n places below));
       }
+
+  -- the places with those of one more set
+  pub still_counted : (pairs next : ℕ) → pairs ≡ places_in_all (sets_from n 0 ts es ps) → next ≡ min (pairs + length places) 18446744073709551615
+      → next ≡ places_in_all (sets_from n 0 (ts ++ t ∷ []) (es ++ length (ps ++ more) ∷ []) (ps ++ more))
+  still_counted pairs next counted is =
+      let size : PlaceSet → ℕ = λ s. length s.places in
+      let sum = ap (sum_by size) one_more ∙ sum_by_push size (sets_from n 0 ts es ps) (place_set t places) in
+      omega (arith, counted, is, sum)
 
 -- ---- the set of a trigram
 
@@ -189,26 +201,3 @@ module _ (n : ℕ) (ts es ps : List ℕ) (u i : ℕ) (h : IsTable n ts es ps) wh
   missing absent =
       let lacks = lacks_at ts i u h.rising (λ k before _. absent.1 k before) (λ inside. absent.2 i (omega arith) inside) in
       sym (places_absent (sets_from n 0 ts es ps) u (rw (trigrams_from n 0 ts es ps h.same) (has_not ts u lacks)))
-
--- ---- the set at a place
-
-pub length-sets_from : (n f : ℕ) (ts es ps : List ℕ) → length ts ≡ length es → length (sets_from n f ts es ps) ≡ length ts
-length-sets_from n f ts es ps same = sym (length-map (sets_from n f ts es ps) (λ (s : PlaceSet). s.trigram)) ∙ ap length (trigrams_from n f ts es ps same)
-
-pub trigram_at : (n : ℕ) (ts es ps : List ℕ) (i : ℕ) → length ts ≡ length es → i < length ts → get_or ts i 0 ≡ (get_or (sets_from n 0 ts es ps) i no_set).trigram
-trigram_at n ts es ps i same inside =
-    let sets = sets_from n 0 ts es ps in
-    let low : i < length sets = omega (arith, inside, length-sets_from n 0 ts es ps same) in
-    ap (λ us. get_or us i 0) (sym (trigrams_from n 0 ts es ps same)) ∙ get_or-map (λ (s : PlaceSet). s.trigram) sets i no_set 0 low
-
-pub set_at : (n f : ℕ) (ts es ps : List ℕ) (i : ℕ) → length ts ≡ length es → i < length ts
-    → places_in n (slice_range ps (begin_at f es i) (get_or es i 0)) ≡ (get_or (sets_from n f ts es ps) i no_set).places
-unfolding sets_from
-set_at n f [] es ps i same inside = absurd (omega arith)
-set_at n f (t ∷ ts) [] ps i same inside = absurd (omega arith)
-set_at n f (t ∷ ts) (e ∷ es) ps zero same inside = refl
-set_at n f (t ∷ ts) (e ∷ es) ps (suc i) same inside = begins i ∙ set_at n e ts es ps i (omega arith) (omega arith)
-  where
-    begins : (i : ℕ) → places_in n (slice_range ps (get_or (e ∷ es) i 0) (get_or es i 0)) ≡ places_in n (slice_range ps (begin_at e es i) (get_or es i 0))
-    begins zero = refl
-    begins (suc i) = refl

@@ -4,7 +4,6 @@ use Rattle.std.specs.List.{list_any, flat_map, filter_map, find, sum_by}
 use Rattle.std.specs.Borrow.{Bor}
 use Rattle.std.specs.List.Sorted.{IsStrictlyIncreasing}
 use Rattle.query.specs.Query.{Formula, is_met}
-use Rattle.segments.specs.declared.content.Analysed.{Analysed}
 
 -- a number, and the trigrams of the body that has it, rising
 pub record Content : Type 0 where
@@ -29,10 +28,6 @@ selected formula contents = numbers_of (filter (meets formula) contents)
 -- how many pairs of a content and a trigram that it has there are
 abbrev pub pairs_in : List Content → ℕ
 pairs_in contents = sum_by (λ c. length c.trigrams) contents
-
--- the contents of a program's list
-abbrev pub contents_of : List Analysed → List Content
-contents_of analysed = map (λ a. record { number = a.number; trigrams = a.trigrams.now }) analysed
 
 -- The numbers rise from content to content, and within each content so do the trigrams.
 pub record AreInOrder (contents : List Content) : Type 0 where

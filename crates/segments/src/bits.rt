@@ -83,17 +83,3 @@ pub(crate) fn push_marked(
     }
     Ok(())
 }
-
-/// How many places below `count` have their bits set.
-pub(crate) fn count_marked(count: usize, bytes: &[u8]) -> usize
-    requires { count ≤ 4294967296 }
-    ensures { result ≡ length (marked_below count bytes.now) }
-{
-    let mut marked = 0;
-    for place in 0..count {
-        if is_marked(bytes, place as u32) {
-            marked += 1;
-        }
-    }
-    marked
-}

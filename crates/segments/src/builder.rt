@@ -7,17 +7,18 @@ ghost use Rattle.segments.specs.Bodies.{known_content, body_content};
 use crate::content::Analysed;
 use crate::keys::{push_keys, table_of};
 use crate::marks::Marks;
+use crate::order::in_order;
 use crate::segment::Segment;
 use std::alloc::{AllocError, Global};
 use std::marker::Model;
 
-/// A segment while it is made: contents are added one after the other, and nothing is sorted before the end.
+/// A segment while it is made: contents are added one after the other, and nothing is put in order before the end.
 ///
 /// Contracts see it as the list of the contents so far, each with its number and its rising trigrams.
 #[derive(Drop)]
 pub struct Builder {
     numbers: Vec<u32>,
-    /// The key of each content and each of its trigrams, in any order within a content.
+    /// The key of each content and each of its trigrams: one content's after the other's, in any order within a content.
     keys: Vec<u64>,
 }
 
@@ -78,14 +79,14 @@ impl Builder {
         Ok(more)
     }
 
-    /// The segment of the contents. All their keys are sorted at once.
+    /// The segment of the contents. All their keys are put in order at once.
     ///
     /// An `Err` means that memory ran out.
     pub fn finish(self, alloc: Global) -> Result<Segment, AllocError>
         ensures { IfOk result (λ segment. segment ≡ self) }
     {
         let Builder { numbers, keys } = self;
-        let table = table_of(alloc, numbers.len(), keys)?;
+        let table = table_of(alloc, numbers.len(), in_order(keys)?)?;
         Ok(Segment::of(numbers, table))
     }
 }

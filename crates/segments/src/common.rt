@@ -1,11 +1,13 @@
-//! What two rising lists have in common.
+//! What a rising list and a set in gaps have in common.
 
 ghost use Rattle.std.specs.Prelude.{◌≡◌, ◌<◌, ◌≤◌, ◌↔◌, ℕ, IfOk, IfErr, IsTrue, length, filter, slice_index};
 ghost use Rattle.std.specs.List.Sorted.{IsStrictlyIncreasing};
 ghost use Rattle.watch.specs.CalledOff.{IsCalledOffOnlyIf};
 ghost use Rattle.segments.specs.Contents.{has};
+ghost use Rattle.segments.specs.Private.Gaps.{numbers_after, IsSpelled};
 ghost use Rattle.segments.specs.Private.Selection.{IsReached};
 
+use crate::gaps::first_number;
 use crate::places::PACE;
 use std::alloc::Global;
 use watch::{Pace, Unanswered, Watch, ask};
@@ -13,48 +15,34 @@ use watch::{Pace, Unanswered, Watch, ask};
 /// So many places are passed at once.
 const BLOCK: usize = 32;
 
-/// Those of the first places that are also among the second ones.
+/// Those of the places that are among the numbers in these bytes. The bytes are read once, beside the places, as far as there are places.
 pub(crate) fn common<W: Watch>(
     alloc: Global,
-    left: &[u32],
-    right: &[u32],
+    places: &[u32],
+    bytes: &[u8],
     watch: &mut W,
 ) -> Result<Vec<u32>, Unanswered>
-    requires left { IsStrictlyIncreasing left.now }
-    requires right { IsStrictlyIncreasing right.now }
-    ensures common { IfOk result (λ common. common.items ≡ filter (has right.now) left.now) }
-    ensures called_off { IfErr result (IsCalledOffOnlyIf (W.has_said_no watch.new)) }
-{
-    if left.len() <= right.len() {
-        found_in(alloc, left, right, watch)
-    } else {
-        found_in(alloc, right, left, watch)
-    }
-}
-
-/// Those of the few places that are among the many.
-fn found_in<W: Watch>(
-    alloc: Global,
-    few: &[u32],
-    many: &[u32],
-    watch: &mut W,
-) -> Result<Vec<u32>, Unanswered>
-    requires few { IsStrictlyIncreasing few.now }
-    requires many { IsStrictlyIncreasing many.now }
-    ensures found { IfOk result (λ found. found.items ≡ filter (has many.now) few.now) }
+    requires rising { IsStrictlyIncreasing places.now }
+    requires spelled { IsSpelled 0 bytes.now }
+    ensures common { IfOk result (λ common. common.items ≡ filter (has (numbers_after 0 bytes.now)) places.now) }
     ensures called_off { IfErr result (IsCalledOffOnlyIf (W.has_said_no watch.new)) }
 {
     ask(watch)?;
     let mut pace = Pace::each(PACE);
-    let mut found = Vec::new(alloc);
+    let mut found = Vec::with_capacity(alloc, places.len())?;
+    let mut rest = bytes;
+    let mut before = 0;
     let mut at = 0;
-    for place in few {
-        let next = reach(many, at, *place);
+    while at < places.len() && !rest.is_empty() {
+        let (number, after) = first_number(rest, before);
+        let next = reach(places, at, number);
         pace.look_after(1 + (next - at) / BLOCK, watch)?;
-        at = next;
-        if is_at(many, at, *place) {
-            found.push(*place)?;
+        if is_at(places, next, number) {
+            found.push(number)?;
         }
+        rest = after;
+        before = number;
+        at = next;
     }
     Ok(found)
 }

@@ -48,21 +48,8 @@ pub(crate) fn push_numbers(numbers: &mut Vec<u32>, bytes: &[u8]) -> Result<(), A
     Ok(())
 }
 
-/// How many numbers these bytes have: as many as there are bytes that end a number.
-pub(crate) fn count_numbers(bytes: &[u8]) -> usize
-    ensures { result ≡ length (numbers_after 0 bytes.now) }
-{
-    let mut count = 0;
-    for byte in bytes {
-        if *byte < 128 {
-            count += 1;
-        }
-    }
-    count
-}
-
 /// The first number in bytes that follow the number `before`, and the bytes after it.
-fn first_number(bytes: &[u8], before: u32) -> (u32, &[u8])
+pub(crate) fn first_number(bytes: &[u8], before: u32) -> (u32, &[u8])
     requires spelled { IsSpelled before bytes.now }
     requires some { 0 < length bytes.now }
     ensures { IsFirstNumber before bytes.now result.0 result.1.now }

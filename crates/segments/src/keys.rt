@@ -1,28 +1,15 @@
 //! Sets of places as sorted keys, and how they are put into a table.
 
 ghost use Rattle.std.specs.Prelude.{◌≡◌, ◌<◌, ◌≤◌, ◌++◌, IfOk, OnOk, length, map};
-ghost use Rattle.std.specs.List.Sorted.{IsStrictlyIncreasing};
-ghost use Rattle.segments.specs.Contents.{contents_of};
-ghost use Rattle.segments.specs.Private.Keys.{key, trigram_in, place_in, content_keys, AreKeysBelow, Adds, Precedes, IsRun, HasKeys};
+ghost use Rattle.std.specs.List.Sorted.{IsStrictlyIncreasing, IsSorted};
+ghost use Rattle.std.specs.Ordering.{nat_cmp};
+ghost use Rattle.segments.specs.Private.Keys.{key, trigram_in, place_in, AreKeysBelow, Adds, Precedes, IsRun, HasKeys};
 ghost use Rattle.segments.specs.Private.Known.{AddsKnown};
 
-use crate::content::Analysed;
 use crate::laying::Laying;
 use crate::table::Table;
 use query::Trigram;
 use std::alloc::{AllocError, Global};
-
-/// The keys of the contents, whose places are 0, 1 and so on.
-pub(crate) fn keys_of(alloc: Global, contents: &[Analysed<'_>]) -> Result<Vec<u64>, AllocError>
-    requires { length contents.now ≤ 4294967296 }
-    ensures { IfOk result (λ keys. keys.items ≡ content_keys 0 (contents_of contents.now)) }
-{
-    let mut keys = Vec::new(alloc);
-    for (place, content) in contents.iter().enumerate() {
-        push_keys(&mut keys, place as u32, content.trigrams)?;
-    }
-    Ok(keys)
-}
 
 /// Adds the keys of the trigrams with this place.
 pub(crate) fn push_keys(
@@ -38,15 +25,15 @@ pub(crate) fn push_keys(
     Ok(())
 }
 
-/// The table of the sets that have these keys, whose places are below `count`.
+/// The table of the sets that have these keys, which are in order and whose places are below `count`.
 ///
 /// An `Err` means that memory ran out.
 pub(crate) fn table_of(alloc: Global, count: usize, keys: Vec<u64>) -> Result<Table, AllocError>
-    requires { AreKeysBelow count keys.items }
+    requires below { AreKeysBelow count keys.items }
+    requires sorted { IsSorted nat_cmp keys.items }
     ensures { IfOk result (HasKeys keys.items) }
 {
     let mut keys = keys;
-    keys.sort_unstable();
     // no key is there twice; this says so to the proof
     keys.dedup();
     Ok(lay(alloc, Laying::new(alloc, count), &keys)?.finish())

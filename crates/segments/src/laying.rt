@@ -18,16 +18,18 @@ pub(crate) struct Laying {
     trigrams: Vec<u32>,
     ends: Vec<usize>,
     bytes: Vec<u8>,
+    /// How many places all sets have together, or 2^64 - 1 if they have more.
+    pairs: u64,
 }
 
 impl Model for Laying {
-    ghost use Rattle.segments.specs.Private.Table.{Laid, laid, sets_from, IsTable};
+    ghost use Rattle.segments.specs.Private.Table.{Laid, laid, sets_from, IsCountedTable};
 
     ghost Value = { Laid };
 
     ghost view = { λ l. laid l.count (sets_from l.count 0 l.trigrams.items l.ends.items l.bytes.items) };
 
-    ghost invariant = { λ l. IsTable l.count l.trigrams.items l.ends.items l.bytes.items };
+    ghost invariant = { λ l. IsCountedTable l.count l.trigrams.items l.ends.items l.bytes.items l.pairs };
 }
 
 impl Laying {
@@ -41,6 +43,7 @@ impl Laying {
             trigrams: Vec::new(alloc),
             ends: Vec::new(alloc),
             bytes: Vec::new(alloc),
+            pairs: 0,
         }
     }
 
@@ -54,6 +57,7 @@ impl Laying {
         push_set(&mut more.bytes, more.count, places)?;
         more.ends.push(more.bytes.len())?;
         more.trigrams.push(trigram)?;
+        more.pairs = more.pairs.saturating_add(places.len() as u64);
         Ok(more)
     }
 
@@ -65,6 +69,12 @@ impl Laying {
         whole.trigrams.shrink_to_fit();
         whole.ends.shrink_to_fit();
         whole.bytes.shrink_to_fit();
-        Table::new(whole.count, whole.trigrams, whole.ends, whole.bytes)
+        Table::new(
+            whole.count,
+            whole.trigrams,
+            whole.ends,
+            whole.bytes,
+            whole.pairs,
+        )
     }
 }

@@ -6,14 +6,17 @@ mod builder;
 mod common;
 mod content;
 mod gaps;
+mod join;
 mod keys;
 mod laying;
 mod marks;
 mod merge;
+mod order;
 mod places;
 mod segment;
 mod select;
 mod table;
+mod within;
 
 pub use builder::Builder;
 pub use content::Analysed;

@@ -1,15 +1,15 @@
 //! The places of one trigram, in bytes.
 
-ghost use Rattle.std.specs.Prelude.{◌≡◌, ◌++◌, IfOk, IfErr, OnOk, length, filter};
+ghost use Rattle.std.specs.Prelude.{◌≡◌, ◌≤◌, ◌++◌, IfOk, IfErr, OnOk, filter};
 ghost use Rattle.std.specs.List.Sorted.{IsStrictlyIncreasing};
 ghost use Rattle.watch.specs.CalledOff.{IsCalledOffOnlyIf};
 ghost use Rattle.segments.specs.Contents.{has};
-ghost use Rattle.segments.specs.Private.Bits.{is_marked};
+ghost use Rattle.segments.specs.Private.Bits.{is_marked, marked_below};
 ghost use Rattle.segments.specs.Private.PlaceBytes.{set_bytes, places_in, AreBelow, IsPlaceBytes};
 
-use crate::bits::{count_marked, is_marked, push_bits, push_marked, width};
+use crate::bits::{is_marked, push_bits, push_marked, width};
 use crate::common::common;
-use crate::gaps::{count_numbers, push_gaps, push_numbers};
+use crate::gaps::{push_gaps, push_numbers};
 use std::alloc::{AllocError, Global};
 use std::marker::Model;
 use watch::{Pace, Unanswered, Watch, ask};
@@ -66,17 +66,6 @@ impl<'a> Places<'a> {
         self.bytes.len()
     }
 
-    /// How many places there are.
-    pub(crate) fn len(&self) -> usize
-        ensures { result ≡ length self.now }
-    {
-        if self.bytes.len() < width(self.count) {
-            count_numbers(self.bytes)
-        } else {
-            count_marked(self.count, self.bytes)
-        }
-    }
-
     /// Adds the places to these.
     pub(crate) fn push_to(&self, places: &mut Vec<u32>) -> Result<(), AllocError>
         ensures { OnOk result (places.new.items ≡ places.old.items ++ self.now) }
@@ -86,6 +75,23 @@ impl<'a> Places<'a> {
         } else {
             push_marked(places, self.count, self.bytes)
         }
+    }
+
+    /// The places, in a list.
+    pub(crate) fn list<W: Watch>(
+        &self,
+        alloc: Global,
+        watch: &mut W,
+    ) -> Result<Vec<u32>, Unanswered>
+        ensures places { IfOk result (λ places. places.items ≡ self.now) }
+        ensures called_off { IfErr result (IsCalledOffOnlyIf (W.has_said_no watch.new)) }
+    {
+        if self.bytes.len() < width(self.count) {
+            let mut places = Vec::with_capacity(alloc, self.bytes.len())?;
+            push_numbers(&mut places, self.bytes)?;
+            return Ok(places);
+        }
+        all_marked(alloc, self.count, self.bytes, watch)
     }
 
     /// Those of the places, which rise, that are in the set.
@@ -100,13 +106,33 @@ impl<'a> Places<'a> {
         ensures called_off { IfErr result (IsCalledOffOnlyIf (W.has_said_no watch.new)) }
     {
         if self.bytes.len() < width(self.count) {
-            let mut numbers = Vec::new(alloc);
-            push_numbers(&mut numbers, self.bytes)?;
-            common(alloc, places, numbers.as_slice(), watch)
+            common(alloc, places, self.bytes, watch)
         } else {
             marked_among(alloc, places, self.bytes, watch)
         }
     }
+}
+
+/// The places below `count` whose bits are set.
+fn all_marked<W: Watch>(
+    alloc: Global,
+    count: usize,
+    bytes: &[u8],
+    watch: &mut W,
+) -> Result<Vec<u32>, Unanswered>
+    requires { count ≤ 4294967296 }
+    ensures places { IfOk result (λ places. places.items ≡ marked_below count bytes.now) }
+    ensures called_off { IfErr result (IsCalledOffOnlyIf (W.has_said_no watch.new)) }
+{
+    let mut pace = Pace::each(PACE);
+    let mut places = Vec::with_capacity(alloc, bytes.len())?;
+    for place in 0..count {
+        pace.look(watch)?;
+        if is_marked(bytes, place as u32) {
+            places.push(place as u32)?;
+        }
+    }
+    Ok(places)
 }
 
 /// Those of the places whose bits are set.
@@ -121,7 +147,7 @@ fn marked_among<W: Watch>(
 {
     ask(watch)?;
     let mut pace = Pace::each(PACE);
-    let mut found = Vec::new(alloc);
+    let mut found = Vec::with_capacity(alloc, places.len())?;
     for place in places {
         pace.look(watch)?;
         if is_marked(bytes, *place) {

@@ -1,17 +1,16 @@
-//! Segments, and how they are made of contents.
+//! Segments, and how several become one.
 
-ghost use Rattle.std.specs.Prelude.{◌≡◌, ◌<◌, ◌≤◌, IfOk, IfErr, OnOk, All, min, length};
+ghost use Rattle.std.specs.Prelude.{◌≡◌, ◌<◌, ◌≤◌, ◌++◌, IfOk, IfErr, OnOk, All, min, length};
 ghost use Rattle.query.specs.Query.{formula_of};
 ghost use Rattle.watch.specs.CalledOff.{IsCalledOffOnlyIf};
-ghost use Rattle.segments.specs.Contents.{numbers_of, pairs_in, contents_of, selected, AreInOrder, AllDiffer, contents_in, kept};
-ghost use Rattle.segments.specs.Private.Joins.{AddsKept};
+ghost use Rattle.segments.specs.Contents.{numbers_of, pairs_in, selected, AllDiffer, contents_in, kept};
+ghost use Rattle.segments.specs.Private.Joins.{AddsPlaces, AddsTrigrams};
 ghost use Rattle.segments.specs.Private.Places.{contents_at, IsSegment};
 ghost use Rattle.std.specs.List.Sorted.{IsStrictlyIncreasing};
 
-use crate::content::Analysed;
-use crate::keys::{keys_of, table_of};
-use crate::merge::{kept_keys, kept_numbers, push_targets, targets};
-use crate::select::{narrow, numbers_at, places_below};
+use crate::join::{joined, push_targets};
+use crate::merge::kept_numbers;
+use crate::select::{narrow, numbers_at};
 use crate::table::Table;
 use query::Query;
 use std::alloc::{AllocError, Global};
@@ -42,18 +41,6 @@ impl Model for Segment {
 }
 
 impl Segment {
-    /// The segment of these contents.
-    ///
-    /// An `Err` means that memory ran out.
-    pub fn build(alloc: Global, contents: &[Analysed<'_>]) -> Result<Segment, AllocError>
-        requires { AreInOrder (contents_of contents.now) }
-        ensures { IfOk result (λ segment. segment ≡ contents_of contents.now) }
-    {
-        let numbers = numbers_in(alloc, contents)?;
-        let table = table_of(alloc, contents.len(), keys_of(alloc, contents)?)?;
-        Ok(Segment { numbers, table })
-    }
-
     /// One segment of those contents of these segments that have one of the numbers to be kept. No two contents of the
     /// segments have the same number, and those to be kept rise; a number that no content has is passed over.
     ///
@@ -64,11 +51,7 @@ impl Segment {
         ensures { IfOk result (λ merged. merged ≡ kept keep.now (contents_in segments.now)) }
     {
         let numbers = kept_numbers(alloc, segments, keep)?;
-        let table = table_of(
-            alloc,
-            numbers.len(),
-            kept_keys(alloc, segments, numbers.as_slice())?,
-        )?;
+        let table = joined(alloc, segments, numbers.as_slice())?;
         Ok(Segment { numbers, table })
     }
 
@@ -80,19 +63,28 @@ impl Segment {
         Segment { numbers, table }
     }
 
-    /// Adds the keys of those contents that have one of these numbers, by their places among the numbers, which rise.
-    pub(crate) fn push_kept(
-        &self,
-        alloc: Global,
-        numbers: &[u32],
-        keys: &mut Vec<u64>,
-    ) -> Result<(), AllocError>
-        requires rising { IsStrictlyIncreasing numbers.now }
-        requires few { length numbers.now ≤ 4294967296 }
-        ensures { OnOk result (AddsKept numbers.now self.now keys.old.items keys.new.items) }
+    /// Adds the trigrams that some content has.
+    pub(crate) fn push_trigrams(&self, trigrams: &mut Vec<u32>) -> Result<(), AllocError>
+        ensures { OnOk result (AddsTrigrams self.now trigrams.old.items trigrams.new.items) }
     {
-        let targets = targets(alloc, self.numbers.as_slice(), numbers)?;
-        push_targets(alloc, &self.table, targets.as_slice(), keys)
+        self.table.push_trigrams(trigrams)
+    }
+
+    /// Adds the targets of the contents that have the trigram. There is one target, or none, for each content. What `read` has
+    /// does not matter.
+    pub(crate) fn push_places(
+        &self,
+        trigram: u32,
+        targets: &[Option<u32>],
+        read: &mut Vec<u32>,
+        places: &mut Vec<u32>,
+    ) -> Result<(), AllocError>
+        requires { length targets.now ≡ length self.now }
+        ensures { OnOk result (AddsPlaces trigram targets.now self.now places.old.items places.new.items) }
+    {
+        read.clear();
+        self.table.places_with(trigram).push_to(read)?;
+        push_targets(read.as_slice(), targets, places)
     }
 
     /// How many contents there are.
@@ -102,11 +94,11 @@ impl Segment {
         self.numbers.len()
     }
 
-    /// How many pairs of a content and a trigram that it has there are, or 2^64 - 1 if there are more. Each set is gone through.
-    pub fn postings(&self) -> u64
+    /// How many pairs of a content and a trigram that it has there are, or 2^64 - 1 if there are more. This takes no time.
+    pub fn pairs(&self) -> u64
         ensures { result ≡ min (pairs_in self.now) 18446744073709551615 }
     {
-        self.table.postings()
+        self.table.pairs()
     }
 
     /// The numbers of the contents, rising.
@@ -114,6 +106,14 @@ impl Segment {
         ensures { result.now ≡ numbers_of self.now }
     {
         self.numbers.as_slice()
+    }
+
+    /// Adds the numbers of the contents, rising. An `Err` means that memory ran out.
+    pub fn push_numbers(&self, numbers: &mut Vec<u32>) -> Result<(), AllocError>
+        ensures { OnOk result (numbers.new.items ≡ numbers.old.items ++ numbers_of self.now) }
+    {
+        numbers.extend_from_slice(self.numbers())?;
+        Ok(())
     }
 
     /// The numbers of the contents whose trigrams meet the query, rising.
@@ -130,20 +130,7 @@ impl Segment {
         ensures chosen { IfOk result (λ numbers. numbers.items ≡ selected (formula_of query.now) self.now) }
         ensures called_off { IfErr result (IsCalledOffOnlyIf (W.has_said_no watch.new)) }
     {
-        let all = places_below(alloc, self.numbers.len(), watch)?;
-        let places = narrow(&self.table, alloc, query, all.as_slice(), watch)?;
+        let places = narrow(&self.table, alloc, query, self.numbers.len(), None, watch)?;
         numbers_at(alloc, self.numbers.as_slice(), places.as_slice(), watch)
     }
-}
-
-/// The numbers of the contents.
-fn numbers_in(alloc: Global, contents: &[Analysed<'_>]) -> Result<Vec<u32>, AllocError>
-    ensures numbers { IfOk result (λ numbers. numbers.items ≡ numbers_of (contents_of contents.now)) }
-    ensures small { IfOk result (λ numbers. All (λ n. n < 4294967296) numbers.items) }
-{
-    let mut numbers = Vec::with_capacity(alloc, contents.len())?;
-    for content in contents {
-        numbers.push(content.number)?;
-    }
-    Ok(numbers)
 }

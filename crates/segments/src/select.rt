@@ -1,39 +1,20 @@
 //! Which contents of a segment meet a query.
 
-ghost use Rattle.std.specs.Prelude.{◌≡◌, ◌<◌, ◌≤◌, ◌||◌, ℕ, IfOk, IfErr, All, length, map, filter, slice_index, slice_index_or, false};
+ghost use Rattle.std.specs.Prelude.{◌≡◌, ◌<◌, ◌≤◌, ◌||◌, ℕ, [], IfOk, IfErr, IsTrue, All, length, map, filter, slice_index, slice_index_or, false};
 ghost use Rattle.std.specs.List.{list_all};
 ghost use Rattle.std.specs.List.Sorted.{IsStrictlyIncreasing};
 ghost use Rattle.query.specs.Query.{formula_of, formulas_of, texts, all_of, one_of};
 ghost use Rattle.query.specs.Pairs.{texts_in};
 ghost use Rattle.watch.specs.CalledOff.{IsCalledOffOnlyIf};
 ghost use Rattle.segments.specs.Contents.{has};
-ghost use Rattle.segments.specs.Private.Below.{numbers_below};
-ghost use Rattle.segments.specs.Private.Selection.{chosen, trigrams_with, Rises};
+ghost use Rattle.segments.specs.Private.Selection.{chosen, trigrams_with, places_within, Fits, Rises};
 
 use crate::places::PACE;
 use crate::table::Table;
+use crate::within::{all_within, end_of, is_none_within, mark, marked_within, those_with};
 use query::{Pairs, Query, Trigram, trigrams_in_turn};
 use std::alloc::Global;
 use watch::{Pace, Unanswered, Watch};
-
-/// The places from 0 on, so many.
-pub(crate) fn places_below<W: Watch>(
-    alloc: Global,
-    count: usize,
-    watch: &mut W,
-) -> Result<Vec<u32>, Unanswered>
-    requires { count ≤ 4294967296 }
-    ensures places { IfOk result (λ places. places.items ≡ numbers_below count) }
-    ensures called_off { IfErr result (IsCalledOffOnlyIf (W.has_said_no watch.new)) }
-{
-    let mut pace = Pace::each(PACE);
-    let mut places = Vec::with_capacity(alloc, count)?;
-    for place in 0..count {
-        pace.look(watch)?;
-        places.push(place as u32)?;
-    }
-    Ok(places)
-}
 
 /// The numbers at these places.
 pub(crate) fn numbers_at<W: Watch>(
@@ -55,26 +36,35 @@ pub(crate) fn numbers_at<W: Watch>(
     Ok(found)
 }
 
-/// Those of the places that meet the query.
+/// Those places that meet the query, of these, or of all below `count`.
 #[cycle(narrow)]
 pub(crate) fn narrow<W: Watch>(
     table: &Table,
     alloc: Global,
     query: &Query,
-    within: &[u32],
+    count: usize,
+    within: Option<&[u32]>,
     watch: &mut W,
 ) -> Result<Vec<u32>, Unanswered>
-    requires { Rises within.now }
-    ensures chosen { IfOk result (λ found. found.items ≡ chosen table.now (formula_of query.now) within.now) }
+    requires fits { Fits count table.now }
+    requires rises { Rises (places_within count within) }
+    ensures chosen { IfOk result (λ found. found.items ≡ chosen table.now (formula_of query.now) (places_within count within.entry)) }
     ensures called_off { IfErr result (IsCalledOffOnlyIf (W.has_said_no watch.new)) }
 {
+    if is_none_within(count, within) {
+        return Ok(Vec::new(alloc));
+    }
     match query {
-        Query::Any => Ok(Vec::from_slice(alloc, within)?),
+        Query::Any => all_within(alloc, count, within, watch),
         Query::None => Ok(Vec::new(alloc)),
-        Query::Has(trigram) => table.places(*trigram).among(alloc, within, watch),
-        Query::Pairs(pairs) => narrow_by_texts(table, alloc, pairs, within, watch),
-        Query::And(members) => narrow_by_all(table, alloc, members.as_slice(), within, watch),
-        Query::Or(members) => narrow_by_any(table, alloc, members.as_slice(), within, watch),
+        Query::Has(trigram) => those_with(table, alloc, *trigram, count, within, watch),
+        Query::Pairs(pairs) => narrow_by_texts(table, alloc, pairs, count, within, watch),
+        Query::And(members) => {
+            narrow_by_all(table, alloc, members.as_slice(), count, within, watch)
+        }
+        Query::Or(members) => {
+            narrow_by_any(table, alloc, members.as_slice(), count, within, watch)
+        }
     }
 }
 
@@ -84,21 +74,32 @@ fn narrow_by_all<W: Watch>(
     table: &Table,
     alloc: Global,
     members: &[Query],
-    within: &[u32],
+    count: usize,
+    within: Option<&[u32]>,
     watch: &mut W,
 ) -> Result<Vec<u32>, Unanswered>
-    requires { Rises within.now }
+    requires fits { Fits count table.now }
+    requires rises { Rises (places_within count within) }
     ensures chosen { IfOk result (λ found. found.items
-        ≡ chosen table.now (all_of (formulas_of (map formula_of members.now))) within.now) }
+        ≡ chosen table.now (all_of (formulas_of (map formula_of members.now))) (places_within count within.entry)) }
     ensures called_off { IfErr result (IsCalledOffOnlyIf (W.has_said_no watch.new)) }
 {
     let first = fewest(table, members, watch)?;
     let mut found = match members.get(first) {
-        Some(member) => narrow(table, alloc, member, within, watch)?,
-        None => Vec::from_slice(alloc, within)?,
+        Some(member) => narrow(table, alloc, member, count, within, watch)?,
+        None => all_within(alloc, count, within, watch)?,
     };
-    for member in members {
-        found = narrow(table, alloc, member, found.as_slice(), watch)?;
+    for i in 0..members.len() {
+        if i != first {
+            found = narrow(
+                table,
+                alloc,
+                &members[i],
+                count,
+                Some(found.as_slice()),
+                watch,
+            )?;
+        }
     }
     Ok(found)
 }
@@ -108,20 +109,22 @@ fn narrow_by_any<W: Watch>(
     table: &Table,
     alloc: Global,
     members: &[Query],
-    within: &[u32],
+    count: usize,
+    within: Option<&[u32]>,
     watch: &mut W,
 ) -> Result<Vec<u32>, Unanswered>
-    requires { Rises within.now }
+    requires fits { Fits count table.now }
+    requires rises { Rises (places_within count within) }
     ensures chosen { IfOk result (λ found. found.items
-        ≡ chosen table.now (one_of (formulas_of (map formula_of members.now))) within.now) }
+        ≡ chosen table.now (one_of (formulas_of (map formula_of members.now))) (places_within count within.entry)) }
     ensures called_off { IfErr result (IsCalledOffOnlyIf (W.has_said_no watch.new)) }
 {
-    let mut marks = vec![in alloc; false; end_of(within)]?;
+    let mut marks = vec![in alloc; false; end_of(count, within)]?;
     for member in members {
-        let found = narrow(table, alloc, member, within, watch)?;
+        let found = narrow(table, alloc, member, count, within, watch)?;
         mark(&mut marks, found.as_slice());
     }
-    marked(alloc, within, &marks, watch)
+    marked_within(alloc, count, within, &marks, watch)
 }
 
 /// Those of the places whose trigrams have all those of one of the texts.
@@ -129,21 +132,23 @@ fn narrow_by_texts<W: Watch>(
     table: &Table,
     alloc: Global,
     pairs: &Pairs,
-    within: &[u32],
+    count: usize,
+    within: Option<&[u32]>,
     watch: &mut W,
 ) -> Result<Vec<u32>, Unanswered>
-    requires { IsStrictlyIncreasing within.now }
-    ensures chosen { IfOk result (λ found. found.items ≡ chosen table.now (texts (texts_in pairs.now)) within.now) }
+    requires fits { Fits count table.now }
+    requires rises { Rises (places_within count within) }
+    ensures chosen { IfOk result (λ found. found.items ≡ chosen table.now (texts (texts_in pairs.now)) (places_within count within.entry)) }
     ensures called_off { IfErr result (IsCalledOffOnlyIf (W.has_said_no watch.new)) }
 {
     let texts = pairs.texts(alloc)?;
-    let mut marks = vec![in alloc; false; end_of(within)]?;
+    let mut marks = vec![in alloc; false; end_of(count, within)]?;
     for text in &texts {
         let trigrams = trigrams_in_turn(alloc, text.as_slice())?;
-        let found = narrow_by_trigrams(table, alloc, trigrams.as_slice(), within, watch)?;
+        let found = narrow_by_trigrams(table, alloc, trigrams.as_slice(), count, within, watch)?;
         mark(&mut marks, found.as_slice());
     }
-    marked(alloc, within, &marks, watch)
+    marked_within(alloc, count, within, &marks, watch)
 }
 
 /// Those of the places that have all of these trigrams. The rarest comes first.
@@ -151,23 +156,30 @@ fn narrow_by_trigrams<W: Watch>(
     table: &Table,
     alloc: Global,
     trigrams: &[Trigram],
-    within: &[u32],
+    count: usize,
+    within: Option<&[u32]>,
     watch: &mut W,
 ) -> Result<Vec<u32>, Unanswered>
-    requires { IsStrictlyIncreasing within.now }
+    requires fits { Fits count table.now }
+    requires rises { Rises (places_within count within) }
     ensures found { IfOk result (λ found. found.items
-        ≡ filter (λ p. list_all (trigrams_with table.now p) trigrams.now) within.now) }
+        ≡ filter (λ p. list_all (trigrams_with table.now p) trigrams.now) (places_within count within.entry)) }
     ensures called_off { IfErr result (IsCalledOffOnlyIf (W.has_said_no watch.new)) }
 {
     let first = rarest(table, trigrams, watch)?;
     let mut found = match trigrams.get(first) {
-        Some(trigram) => table.places(*trigram).among(alloc, within, watch)?,
-        None => Vec::from_slice(alloc, within)?,
+        Some(trigram) => those_with(table, alloc, *trigram, count, within, watch)?,
+        None => all_within(alloc, count, within, watch)?,
     };
-    for trigram in trigrams {
-        found = table
-            .places(*trigram)
-            .among(alloc, found.as_slice(), watch)?;
+    for i in 0..trigrams.len() {
+        if found.is_empty() {
+            return Ok(found);
+        }
+        if i != first {
+            found = table
+                .places(trigrams[i])
+                .among(alloc, found.as_slice(), watch)?;
+        }
     }
     Ok(found)
 }
@@ -182,6 +194,9 @@ fn rarest<W: Watch>(table: &Table, trigrams: &[Trigram], watch: &mut W) -> Resul
     for (i, trigram) in trigrams.iter().enumerate() {
         pace.look(watch)?;
         let size = table.places(*trigram).size();
+        if size == 0 {
+            return Ok(i);
+        }
         if size < fewest {
             first = i;
             fewest = size;
@@ -200,6 +215,9 @@ fn fewest<W: Watch>(table: &Table, members: &[Query], watch: &mut W) -> Result<u
     for (i, member) in members.iter().enumerate() {
         pace.look(watch)?;
         let size = most(table, member);
+        if size == 0 {
+            return Ok(i);
+        }
         if size < fewest {
             first = i;
             fewest = size;
@@ -208,54 +226,11 @@ fn fewest<W: Watch>(table: &Table, members: &[Query], watch: &mut W) -> Result<u
     Ok(first)
 }
 
-/// At most this many contents meet the query, as far as it is quickly known.
+/// So many bytes at most tell which contents meet the query, as far as it is quickly known.
 fn most(table: &Table, query: &Query) -> usize {
     match query {
         Query::None => 0,
         Query::Has(trigram) => table.places(*trigram).size(),
         _ => usize::MAX,
     }
-}
-
-/// A number above all of these.
-fn end_of(numbers: &[u32]) -> usize
-    requires { IsStrictlyIncreasing numbers.now }
-    ensures { All (λ n. n < result) numbers.now }
-{
-    match numbers.last() {
-        Some(last) => *last as usize + 1,
-        None => 0,
-    }
-}
-
-/// Marks the places. There is a mark for each.
-fn mark(marks: &mut [bool], places: &[u32])
-    requires { All (λ p. p < length marks.old) places.now }
-    ensures { (p : ℕ) → slice_index_or marks.new p false ≡ (slice_index_or marks.old p false || has places.now p) }
-{
-    for place in places {
-        marks[*place as usize] = true;
-    }
-}
-
-/// Those of the places that are marked.
-fn marked<W: Watch>(
-    alloc: Global,
-    places: &[u32],
-    marks: &[bool],
-    watch: &mut W,
-) -> Result<Vec<u32>, Unanswered>
-    requires { All (λ p. p < length marks.now) places.now }
-    ensures marked { IfOk result (λ marked. marked.items ≡ filter (λ p. slice_index_or marks.now p false) places.now) }
-    ensures called_off { IfErr result (IsCalledOffOnlyIf (W.has_said_no watch.new)) }
-{
-    let mut pace = Pace::each(PACE);
-    let mut marked = Vec::new(alloc);
-    for place in places {
-        pace.look(watch)?;
-        if marks[*place as usize] {
-            marked.push(*place)?;
-        }
-    }
-    Ok(marked)
 }

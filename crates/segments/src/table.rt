@@ -1,11 +1,12 @@
 //! Sets of places, one for each trigram of a list.
 
-ghost use Rattle.std.specs.Prelude.{◌≡◌, ◌<◌, ◌≤◌, min, length, slice_index, slice_index_or};
-ghost use Rattle.std.specs.List.{slice_range, sum_by};
-ghost use Rattle.segments.specs.Private.Table.{no_set, places_of, begin_at, sets_from, IsTable};
+ghost use Rattle.std.specs.Prelude.{◌≡◌, ◌<◌, ◌≤◌, ◌++◌, OnOk, length, slice_index};
+ghost use Rattle.std.specs.List.{slice_range};
+ghost use Rattle.segments.specs.Private.Table.{places_of, trigrams_of, places_in_all, begin_at, sets_from, IsCountedTable};
 
 use crate::places::Places;
 use query::Trigram;
+use std::alloc::AllocError;
 use std::marker::Model;
 
 /// Sets of places, each with its trigram.
@@ -20,23 +21,32 @@ pub(crate) struct Table {
     ends: Vec<usize>,
     /// The bytes of the first trigram's set, then those of the second one's, and so on.
     bytes: Vec<u8>,
+    /// How many places all sets have together, or 2^64 - 1 if they have more.
+    pairs: u64,
 }
 
 impl Model for Table {
     ghost use Rattle.std.specs.Prelude.{List};
-    ghost use Rattle.segments.specs.Private.Table.{PlaceSet, sets_from, IsTable};
+    ghost use Rattle.segments.specs.Private.Table.{PlaceSet, sets_from, IsCountedTable};
 
     ghost Value = { List PlaceSet };
 
     ghost view = { λ t. sets_from t.count 0 t.trigrams.items t.ends.items t.bytes.items };
 
-    ghost invariant = { λ t. IsTable t.count t.trigrams.items t.ends.items t.bytes.items };
+    ghost invariant = { λ t. IsCountedTable t.count t.trigrams.items t.ends.items t.bytes.items t.pairs };
 }
 
 impl Table {
-    /// The table in these arrays: of places below `count`, the sets' trigrams, where the bytes of each set end, and the bytes.
-    pub(crate) fn new(count: usize, trigrams: Vec<u32>, ends: Vec<usize>, bytes: Vec<u8>) -> Table
-        requires { IsTable count trigrams.items ends.items bytes.items }
+    /// The table in these arrays: of places below `count`, the sets' trigrams, where the bytes of each set end, the bytes, and how
+    /// many places all sets have together.
+    pub(crate) fn new(
+        count: usize,
+        trigrams: Vec<u32>,
+        ends: Vec<usize>,
+        bytes: Vec<u8>,
+        pairs: u64,
+    ) -> Table
+        requires { IsCountedTable count trigrams.items ends.items bytes.items pairs }
         ensures { result ≡ sets_from count 0 trigrams.items ends.items bytes.items }
     {
         Table {
@@ -44,51 +54,37 @@ impl Table {
             trigrams,
             ends,
             bytes,
+            pairs,
         }
-    }
-
-    /// How many sets there are.
-    pub(crate) fn len(&self) -> usize
-        ensures { result ≡ length self.now }
-    {
-        self.trigrams.len()
     }
 
     /// How many places all sets have together, or 2^64 - 1 if they have more.
-    pub(crate) fn postings(&self) -> u64
-        ensures { result ≡ min (sum_by (λ s. length s.places) self.now) 18446744073709551615 }
+    pub(crate) fn pairs(&self) -> u64
+        ensures { result ≡ places_in_all self.now }
     {
-        let mut postings = 0u64;
-        for number in 0..self.len() {
-            postings = postings.saturating_add(self.set(number).len() as u64);
-        }
-        postings
+        self.pairs
     }
 
-    /// The trigram of the set with this number.
-    pub(crate) fn trigram(&self, number: usize) -> u32
-        requires { number < length self.now }
-        ensures { result ≡ (slice_index_or self.now number no_set).trigram }
+    /// Adds the trigrams of the sets.
+    pub(crate) fn push_trigrams(&self, trigrams: &mut Vec<u32>) -> Result<(), AllocError>
+        ensures { OnOk result (trigrams.new.items ≡ trigrams.old.items ++ trigrams_of self.now) }
     {
-        self.trigrams[number]
-    }
-
-    /// The places of the set with this number.
-    pub(crate) fn set(&self, number: usize) -> Places<'_>
-        requires { number < length self.now }
-        ensures { result ≡ (slice_index_or self.now number no_set).places }
-    {
-        Places::new(
-            self.count,
-            part(self.ends.as_slice(), self.bytes.as_slice(), number),
-        )
+        trigrams.extend_from_slice(self.trigrams.as_slice())?;
+        Ok(())
     }
 
     /// The places of the trigram's set.
     pub(crate) fn places(&self, trigram: Trigram) -> Places<'_>
         ensures { result ≡ places_of self.now trigram }
     {
-        match self.trigrams.as_slice().binary_search(&trigram.number()) {
+        self.places_with(trigram.number())
+    }
+
+    /// The places of the set with this trigram.
+    pub(crate) fn places_with(&self, trigram: u32) -> Places<'_>
+        ensures { result ≡ places_of self.now trigram }
+    {
+        match self.trigrams.as_slice().binary_search(&trigram) {
             Ok(place) => Places::new(
                 self.count,
                 part(self.ends.as_slice(), self.bytes.as_slice(), place),

@@ -1,10 +1,10 @@
 -- Contents of several segments that become those of one.
-use Rattle.std.specs.Prelude.{◌≡◌, ℕ, ◌<◌, Bool, false, ◌&&◌, ◌||◌, ◌==◌, List, length, All, Option, Some, None, slice_index, slice_index_or}
-use Rattle.std.specs.List.{filter_map, flat_map, list_any}
+use Rattle.std.specs.Prelude.{◌≡◌, ℕ, ◌<◌, Bool, true, false, ◌&&◌, ◌||◌, ◌==◌, ◌⊎◌, List, [], ◌∷◌, ◌++◌, length, All, Option, Some, None, slice_index, slice_index_or}
+use Rattle.std.specs.List.{list_any}
 use Rattle.std.specs.List.Sorted.{IsStrictlyIncreasing}
-use Rattle.segments.specs.Contents.{Content, has}
-use Rattle.segments.specs.Private.Table.{PlaceSet}
-use Rattle.segments.specs.Private.Keys.{key, place_in}
+use Rattle.segments.specs.Contents.{Content, has, numbers_of}
+use Rattle.segments.specs.Private.Table.{PlaceSet, place_set, trigrams_of}
+use Rattle.segments.specs.Private.Keys.{key, keys_of}
 
 -- whether a content with this number has the trigram
 abbrev pub says : List Content → ℕ → ℕ → Bool
@@ -30,23 +30,38 @@ pub record AreTargets (from numbers : List ℕ) (targets : List (Option ℕ)) : 
   pub within : All (IsWithin (length numbers)) targets
   pub places : (p : ℕ) → p < length from → IsPlaceAmong numbers (slice_index from p) (slice_index_or targets p None)
 
--- the key of a place's target
-abbrev pub key_to : ℕ → Option ℕ → Option ℕ
-key_to trigram None = None
-key_to trigram (Some target) = Some (key trigram target)
+-- the target of a place
+abbrev pub target_of : List (Option ℕ) → ℕ → Option ℕ
+target_of targets place = slice_index_or targets place None
 
-abbrev pub key_at_target : ℕ → List (Option ℕ) → ℕ → Option ℕ
-key_at_target trigram targets place = key_to trigram (slice_index_or targets place None)
+-- Those numbers' places were added whose contents have the trigram, as far as they are among these contents with these targets.
+pub record AddsPlaces (trigram : ℕ) (targets : List (Option ℕ)) (contents : List Content) (old new : List ℕ) : Type 0 where
+  pub same : (numbers : List ℕ) → AreTargets (numbers_of contents) numbers targets → (q : ℕ) → q < length numbers
+      → has new q ≡ (has old q || says contents (slice_index numbers q) trigram)
+  pub below : (numbers : List ℕ) → AreTargets (numbers_of contents) numbers targets → All (λ p. p < length numbers) old
+      → All (λ p. p < length numbers) new
 
--- the keys of the sets, with each place's target in place of it
-abbrev pub target_keys : List (Option ℕ) → List PlaceSet → List ℕ
-target_keys targets sets = flat_map (λ s. filter_map (key_at_target s.trigram targets) s.places) sets
+-- Each trigram of the contents, which rise in each, is one of these.
+pub record HasTrigrams (contents : List Content) (trigrams : List ℕ) : Type 0 where
+  pub all : (n t : ℕ) → says contents n t ≡ true → has trigrams t ≡ true
+  pub rising : All (λ c. IsStrictlyIncreasing c.trigrams) contents
 
--- The keys of those contents were added that have one of these numbers, by their places among the numbers.
-pub record AddsKept (numbers : List ℕ) (contents : List Content) (old new : List ℕ) : Type 0 where
-  pub same : (t q : ℕ) → q < length numbers → has new (key t q) ≡ (has old (key t q) || says contents (slice_index numbers q) t)
-  pub below : All (λ k. place_in k < length numbers) old → All (λ k. place_in k < length numbers) new
-  pub trigrams : All (λ c. IsStrictlyIncreasing c.trigrams) contents
+-- The trigrams of the contents were added.
+pub record AddsTrigrams (contents : List Content) (old new : List ℕ) : Type 0 where
+  pub still : (t : ℕ) → has old t ≡ true → has new t ≡ true
+  pub added : HasTrigrams contents new
+
+-- There is one more set; if it would have no places, there is none more.
+abbrev pub IsWithSet : List PlaceSet → ℕ → List ℕ → List PlaceSet → Type 0
+IsWithSet old trigram places new = (new ≡ old ++ place_set trigram places ∷ []) ⊎ ((new ≡ old) × (places ≡ []))
+
+-- The sets are those of the contents that have one of these numbers, by their places among the numbers.
+pub record IsJoined (numbers : List ℕ) (contents : List Content) (sets : List PlaceSet) : Type 0 where
+  pub trigrams : IsStrictlyIncreasing (trigrams_of sets)
+  pub rising : All (λ s. IsStrictlyIncreasing s.places) sets
+  pub below : All (λ s. All (λ p. p < length numbers) s.places) sets
+  pub same : (t q : ℕ) → q < length numbers → has (keys_of sets) (key t q) ≡ says contents (slice_index numbers q) t
+  pub order : All (λ c. IsStrictlyIncreasing c.trigrams) contents
 
 -- These are the numbers that are to be kept.
 pub record AreKept (numbers keep kept : List ℕ) : Type 0 where

@@ -1,6 +1,6 @@
 -- Contents as their numbers and the keys of their trigrams, in any order.
 use Rattle.std.specs.Prelude.{◌≡◌, ℕ, ◌<◌, List, ◌++◌, map, filter, length, All, slice_index}
-use Rattle.std.specs.List.Sorted.{IsStrictlyIncreasing}
+use Rattle.std.specs.List.Sorted.{IsStrictlyIncreasing, IsNonDecreasingBy}
 use Rattle.query.specs.Trigrams.{trigrams_of_body}
 use Rattle.segments.specs.Contents.{Content, has}
 use Rattle.segments.specs.Private.Below.{numbers_below}
@@ -17,12 +17,13 @@ content_keyed numbers keys place = record { number = slice_index numbers place; 
 unfoldable pub contents_keyed : List ℕ → List ℕ → List Content
 contents_keyed numbers keys = map (content_keyed numbers keys) (numbers_below (length numbers))
 
--- The keys are those of contents with these numbers.
+-- The keys are those of contents with these numbers, one content's after the other's.
 pub record AreKeyed (ns ks : List ℕ) : Type 0 where
   pub rising : IsStrictlyIncreasing ns
   pub small : All (λ n. n < 4294967296) ns
   pub places : All (λ k. place_in k < length ns) ks
   pub trigrams : All (λ k. trigram_in k < 16777216) ks
+  pub order : IsNonDecreasingBy place_in ks
 
 -- the keys of trigrams with one place
 abbrev pub keys_at : ℕ → List ℕ → List ℕ

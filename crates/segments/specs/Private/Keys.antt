@@ -1,7 +1,7 @@
 -- A trigram and a place in one number, so that sets of places can be sorted.
 use Rattle.std.specs.Prelude.{◌≡◌, ◌≢◌, ℕ, ◌+◌, ◌*◌, ◌/◌, ◌%◌, ◌<◌, ◌≤◌, List, [], ◌∷◌, ◌++◌, map, length, take, All, slice_index}
 use Rattle.std.specs.List.Sorted.{IsStrictlyIncreasing}
-use Rattle.segments.specs.Contents.{Content, has}
+use Rattle.segments.specs.Contents.{has}
 use Rattle.segments.specs.Private.Table.{PlaceSet, trigrams_of}
 
 -- keys rise by their trigrams, and by their places within a trigram
@@ -18,11 +18,6 @@ place_in k = k % 4294967296
 unfoldable pub keys_of : List PlaceSet → List ℕ
 keys_of [] = []
 keys_of (s ∷ sets) = map (key s.trigram) s.places ++ keys_of sets
-
--- the keys of the contents, the first of which has this place
-unfoldable pub content_keys : ℕ → List Content → List ℕ
-content_keys place [] = []
-content_keys place (c ∷ contents) = map (λ t. key t place) c.trigrams ++ content_keys (place + 1) contents
 
 -- The places of the keys are below `count`.
 pub record AreKeysBelow (count : ℕ) (keys : List ℕ) : Type 0 where

@@ -1,6 +1,6 @@
 -- How sets of places lie in memory: the trigram of each set, where its bytes end among all bytes, and the bytes.
-use Rattle.std.specs.Prelude.{◌≡◌, ℕ, zero, suc, ◌≤◌, if◌then◌else◌, ◌==◌, List, [], ◌∷◌, map, length, slice_index}
-use Rattle.std.specs.List.{slice_range}
+use Rattle.std.specs.Prelude.{◌≡◌, ℕ, zero, suc, ◌≤◌, if◌then◌else◌, ◌==◌, List, [], ◌∷◌, map, length, min, slice_index}
+use Rattle.std.specs.List.{slice_range, sum_by}
 use Rattle.std.specs.List.Sorted.{IsStrictlyIncreasing}
 use Rattle.segments.specs.Private.PlaceBytes.{places_in, IsPlaceBytes}
 
@@ -11,10 +11,6 @@ pub record PlaceSet : Type 0 where
 
 abbrev pub place_set : ℕ → List ℕ → PlaceSet
 place_set trigram places = record { trigram = trigram; places = places }
-
--- what is read where there is no set
-abbrev pub no_set : PlaceSet
-no_set = record { trigram = 0; places = [] }
 
 -- the places of the trigram's set; without a set there are none
 abbrev pub places_of : List PlaceSet → ℕ → List ℕ
@@ -58,6 +54,15 @@ pub record IsTable (count : ℕ) (ts es bytes : List ℕ) : Type 0 where
   pub ends : AreEnds 0 es (length bytes)
   pub whole : last_end 0 es ≡ length bytes
   pub spelled : AreSpelled count 0 es bytes
+
+-- how many places all sets have together, or 2^64 - 1 if they have more
+abbrev pub places_in_all : List PlaceSet → ℕ
+places_in_all sets = min (sum_by (λ s. length s.places) sets) 18446744073709551615
+
+-- The same, and so many places are in the sets.
+pub record IsCountedTable (count : ℕ) (ts es bytes : List ℕ) (pairs : ℕ) : Type 0 where
+  pub table : IsTable count ts es bytes
+  pub counted : pairs ≡ places_in_all (sets_from count 0 ts es bytes)
 
 -- sets of places below `count`
 pub record Laid : Type 0 where

@@ -7,8 +7,8 @@ use Rattle.segments.specs.Private.Bits.{is_marked}
 use Rattle.segments.proofs.PlaceLemmas.{spelled_gaps, marked_has}
 use Rattle.segments.proofs.places.Places.among.Goals as goal
 
-pub push_numbers-requires : goal.push_numbers-requires
-push_numbers-requires g c =
+pub common-requires-clause-spelled : goal.common-requires-clause-spelled
+common-requires-clause-spelled g c =
     spelled_gaps c.self.inside.count c.self.inside.bytes.now c.self.invariant (omega (arith, c.if-self-width.true, c.width.ensures))
 
 pub returns-else-self-width-clause-found : goal.returns-else-self-width-clause-found

@@ -1,49 +1,6 @@
-use Rattle.std.proofs.Common.{◌≡◌, ◌<◌, ap, ◌∙◌, length, get_or, arith, Ok, Err}
-use Rattle.std.specs.List.{slice_range}
-use Rattle.segments.specs.Private.Table.{sets_from, places_of, begin_at}
-use Rattle.segments.specs.Private.PlaceBytes.{places_in}
-use Rattle.segments.proofs.TableLemmas.{found, missing, ends_at, spelled_at}
-use Rattle.segments.proofs.PlaceLemmas.{no_places, places_of_none}
-use Rattle.segments.proofs.Members.{SearchedFor, searched_for}
+use Rattle.std.proofs.Common.{ap, ◌∙◌}
+use Rattle.segments.specs.Private.Table.{places_of}
 use Rattle.segments.proofs.table.Table.places.Goals as goal
 
-pub part-requires : goal.part-requires
-part-requires c =
-    let inside = c.self.inside in
-    let place = c.in-Ok.place in
-    let low : place < length inside.ends.items = omega (arith, c.in-Ok.ensures.bound, ap length c.as_slice.ensures.value, c.self.invariant.same) in
-    let ends = ends_at 0 inside.ends.items (length inside.bytes.items) place c.self.invariant.ends low in
-    rw (c.as_slice-in-Ok.ensures.value, c.as_slice-in-Ok-2.ensures.value) (record { number = low; rise = ends.0; within = ends.1 })
-
-pub new-requires : goal.new-requires
-new-requires c =
-    let s = c.self.inside in
-    let place = c.in-Ok.place in
-    let low : place < length s.ends.items = omega (arith, c.in-Ok.ensures.bound, ap length c.as_slice.ensures.value, c.self.invariant.same) in
-    rw (c.part.ensures, c.as_slice-in-Ok.ensures.value, c.as_slice-in-Ok-2.ensures.value)
-    (spelled_at s.count 0 s.ends.items s.bytes.items place c.self.invariant.spelled low)
-
-pub returns-in-Ok : goal.returns-in-Ok
-returns-in-Ok c =
-    let s = c.self.inside in
-    let place = c.in-Ok.place in
-    let searched : SearchedFor s.trigrams.items c.number.result (Ok place) =
-    searched_for s.trigrams.items c.number.result (Ok place) c.self.invariant.rising (rw c.as_slice.ensures.value at c.in-Ok.ensures.position) in
-    let here : places_in s.count (slice_range c.as_slice-in-Ok-2.result.now (begin_at 0 c.as_slice-in-Ok.result.now place) (get_or c.as_slice-in-Ok.result.now place 0))
-    ≡ places_of (sets_from s.count 0 s.trigrams.items s.ends.items s.bytes.items) c.args.trigram =
-    rw (c.as_slice-in-Ok-2.ensures.value, c.as_slice-in-Ok.ensures.value)
-    (found s.count s.trigrams.items s.ends.items s.bytes.items c.args.trigram place c.self.invariant searched.0 (searched.1 ∙ c.number.ensures.value)) in
-    c.new.ensures ∙ ap (places_in s.count) c.part.ensures ∙ here ∙ ap (λ sets. places_of sets c.args.trigram) c.self.view_is
-
-pub new-requires-in-Err : goal.new-requires-in-Err
-new-requires-in-Err c = no_places c.self.inside.count c.self.invariant.few
-
-pub returns-in-Err : goal.returns-in-Err
-returns-in-Err c =
-    let s = c.self.inside in
-    let searched : SearchedFor s.trigrams.items c.number.result (Err c.in-Err.field-0) =
-    searched_for s.trigrams.items c.number.result (Err c.in-Err.field-0) c.self.invariant.rising
-    (rw c.as_slice.ensures.value at c.in-Err.ensures.position) in
-    c.new-in-Err.ensures ∙ places_of_none s.count c.self.invariant.few
-    ∙ missing s.count s.trigrams.items s.ends.items s.bytes.items c.args.trigram c.in-Err.field-0 c.self.invariant (rw c.number.ensures.value at searched)
-    ∙ ap (λ sets. places_of sets c.args.trigram) c.self.view_is
+pub returns : goal.returns
+returns c = c.places_with.ensures ∙ ap (places_of c.args.self.now) c.number.ensures.value
