@@ -1,19 +1,19 @@
 -- Contents under names, and the bodies alone.
 use Rattle.std.proofs.Common.{◌≡◌, ℕ, ◌+◌, ◌&&◌, ◌||◌, inl, inr, Bool, true, false, cond, List, [], ◌∷◌, map, length, Some, None, Contains, refl, sym, ◌∙◌, ap, subst, arith}
-use Rattle.std.specs.Prelude.{T, sum, Option, option_map}
+use Rattle.std.specs.Prelude.{T, sum, Option, option_map, is_some}
+use Rattle.std.specs.Borrow.{Bor}
 use Rattle.std.specs.List.{fold, list_any, sum_by}
 use Rattle.std.specs.Ordering.{nat_cmp, is_eq, is_lt, eq_by_cmp, ordering_reverse}
 use Rattle.std.specs.declared.cmp.Ordering.{Ordering}
 use Rattle.std.specs.declared.cmp.Ordering.TheVariants.{Less, Equal, Greater}
 use Rattle.std.specs.Cmp.{tied_itself}
 use Rattle.std.specs.Cmp.Lexicographic.{slice_cmp, nat_list_cmp_total}
-use Rattle.std.specs.FinMap.{entries, entries_sorted, find, is_sorted, empty, get, insert, remove, retain_keys, keys, len, same_map}
+use Rattle.std.specs.FinMap.{entries, entries_sorted, find, is_sorted, empty, get, insert, remove, retain_keys, keys, len, same_map, from_entries}
 use Rattle.std.specs.FinMap.{nat_cmp-IsAntisymmetric, slice_cmp-IsAntisymmetric}
-use Rattle.std.specs.FinMap.{entries-from_sorted, get-entries, get-from_sorted, get-empty, get-insert, get-remove, get-retain_keys, len-entries}
+use Rattle.std.specs.FinMap.{entries-from_sorted, get-entries, get-from_sorted, get-empty, get-insert, get-remove, get-retain_keys, get-from_entries, len-entries}
 use Rattle.std.specs.FinMap.Entries.{below_all}
 use Rattle.std.proofs.lemmas.List.{length-map}
-use Rattle.prefixes.specs.Under.{begins_with}
-use Rattle.documents.specs.Documents.{Document, Documents, document, has_under}
+use Rattle.documents.specs.Documents.{Document, Documents, document, is_taken}
 use Rattle.documents.specs.State.{body_bytes}
 use Rattle.documents.proofs.ElementLemmas.{Contains-cons, Contains-head, Contains-tail}
 use Rattle.names.specs.declared.content.Content.{Content}
@@ -66,6 +66,12 @@ get-bodies cs q =
 
 same_documents : (m n : Documents) → ((q : List ℕ) → get m q ≡ get n q) → m ≡ n
 same_documents m n is = same_map nat_list_cmp_total same_name m n is
+
+pub bodies-from_entries : (es : List Entry) → bodies_of (from_entries es) ≡ from_entries (map plain es)
+bodies-from_entries es =
+    same_documents (bodies_of (from_entries es)) (from_entries (map plain es)) (λ q.
+    get-bodies (from_entries es) q
+    ∙ (ap held_in (get-from_entries nat_list_cmp_total es q) ∙ (sym (find_plain q es) ∙ sym (get-from_entries nat_list_cmp_total (map plain es) q))))
 
 none_held : Documents
 none_held = empty
@@ -121,13 +127,22 @@ bytes-bodies cs =
     sym (bytes_plain (entries cs))
     ∙ ap (λ es. sum (map (λ (d : Document). length d.body) (map shown es))) (sym (entries-bodies cs))
 
-under_plain : (text : List ℕ) (es : List Entry) → list_any (begins_with text) (map (λ e. e.0) (map plain es)) ≡ list_any (begins_with text) (map (λ e. e.0) es)
-under_plain text [] = refl
-under_plain text (e ∷ es) = ap (λ t. begins_with text e.0 || t) (under_plain text es)
+any_plain : (p : List ℕ → Bool) (es : List Entry) → list_any p (map (λ e. e.0) (map plain es)) ≡ list_any p (map (λ e. e.0) es)
+any_plain p [] = refl
+any_plain p (e ∷ es) = ap (λ t. p e.0 || t) (any_plain p es)
 
-pub under-bodies : (cs : Contents) (text : List ℕ) → list_any (begins_with text) (keys cs) ≡ has_under text (bodies_of cs)
-under-bodies cs text =
-    sym (under_plain text (entries cs)) ∙ ap (λ es. list_any (begins_with text) (map (λ e. e.0) es)) (sym (entries-bodies cs))
+-- a question about names
+pub any-bodies : (cs : Contents) (p : List ℕ → Bool) → list_any p (keys cs) ≡ list_any p (keys (bodies_of cs))
+any-bodies cs p = sym (any_plain p (entries cs)) ∙ ap (λ es. list_any p (map (λ e. e.0) es)) (sym (entries-bodies cs))
+
+-- whether a name has a body
+pub taken : (cs : Contents) (q : List ℕ) (found : Option (Bor (List ℕ))) → option_map (λ body. body.now) found ≡ get (bodies_of cs) q
+    → is_some found ≡ is_taken q (bodies_of cs)
+taken cs q found is = go found ∙ ap is_some is
+  where
+    go : (o : Option (Bor (List ℕ))) → is_some o ≡ is_some (option_map (λ body. body.now) o)
+    go None = refl
+    go (Some b) = refl
 
 -- ---- entries, and what is found under names
 
@@ -171,7 +186,7 @@ found_in (x ∷ es) h e there =
 pub entry_found : (cs : Contents) (e : Entry) → Contains (entries cs) e → get cs e.0 ≡ Some e.1
 entry_found cs e there = get-entries cs e.0 ∙ found_in (entries cs) (entries_sorted cs) e there
 
-in_found : (n : List ℕ) (c : Content) (es : List Entry) → find R n es ≡ Some c → Contains es (n, c)
+pub in_found : (n : List ℕ) (c : Content) (es : List Entry) → find R n es ≡ Some c → Contains es (n, c)
 in_found n c [] found = cc
 in_found n c (x ∷ es) found = go (eq_by_cmp R n x.0) refl found (λ later. in_found n c es later)
   where

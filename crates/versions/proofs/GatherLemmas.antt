@@ -6,7 +6,7 @@ use Rattle.std.proofs.lemmas.Bool.Decides.{nat_tests}
 use Rattle.std.proofs.lemmas.List.{get_or-map, take_more, take_all, length-take, length-map, map-append, map_push, append-nil}
 use Rattle.std.proofs.Math.Bool.{and-false}
 use Rattle.std.proofs.lemmas.List.Elements.{filter-append, Contains-append_left, Contains-get_or}
-use Rattle.std.proofs.lemmas.List.Filters.{length-filter_both, length-filter_more}
+use Rattle.std.proofs.lemmas.List.Filters.{length-filter_both}
 use Rattle.query.specs.Query.{Formula}
 use Rattle.prefixes.specs.Under.{is_under_one}
 use Rattle.documents.specs.declared.document.SharedDocument.{SharedDocument}
@@ -18,7 +18,7 @@ use Rattle.names.specs.declared.content.Named.{Named}
 use Rattle.names.specs.Contents.{Contents, entry_of, entries_of}
 use Rattle.segments.specs.Contents.{Content as Trigrams, has, selected}
 use Rattle.versions.specs.Private.Version.{Entry, plain, bodies_of, IsVersion}
-use Rattle.versions.specs.Private.Gathered.{shared_entry, shared_entries, is_chosen, is_wanted, AreFirstEntries, only_if, Adds, AreGathered}
+use Rattle.versions.specs.Private.Gathered.{shared_entry, shared_entries, is_chosen, is_wanted, AreFirstEntries, AreFirstUnder, only_if, Adds, AreGathered}
 use Rattle.versions.proofs.BodyLemmas.{entries-bodies, entry_found}
 use Rattle.versions.proofs.SaidLemmas.{selected_is}
 
@@ -51,71 +51,41 @@ filter_next : (p : Entry → Bool) (es : List Entry) (at : ℕ) (d : Entry) → 
     → filter p (take (at + 1) es) ≡ filter p (take at es) ++ only_if (p (get_or es at d)) (get_or es at d)
 filter_next p es at d inside = ap (filter p) (take_more es at d inside) ∙ filter-append p (take at es) (get_or es at d ∷ [])
 
--- what is gathered of the entries before a place
-pub record GatheredTo (numbers : List ℕ) (texts : List (List ℕ)) (most : ℕ) (es : List Entry) (at count : ℕ) (documents : List SharedDocument) : Type 0 where
-  pub count_is : count ≡ length (filter (is_chosen numbers) (take at es))
-  pub first : AreFirstEntries most (filter (is_wanted numbers texts) (take at es)) (shared_entries documents)
-
-pub gathered_none : (numbers : List ℕ) (texts : List (List ℕ)) (most : ℕ) (es : List Entry) (documents : List SharedDocument) → documents ≡ []
-    → GatheredTo numbers texts most es 0 0 documents
-gathered_none numbers texts most es documents none = record {
-  count_is = refl;
-  first = record {
-    others = [];
-    whole = ap (λ ds. shared_entries ds ++ []) none;
-    all_or_most = λ _. refl;
-  };
+pub gathered_none : (texts : List (List ℕ)) (most : ℕ) (es : List Entry) (documents : List SharedDocument) → documents ≡ []
+    → AreFirstUnder texts most (take 0 es) documents
+gathered_none texts most es documents none = record {
+  others = [];
+  whole = ap (λ ds. shared_entries ds ++ []) none;
+  all_or_most = λ _. refl;
 }
 
-pub few_counted : (numbers : List ℕ) (es : List Entry) (at count : ℕ) → at < length es → count ≡ length (filter (is_chosen numbers) (take at es)) → count ≤ at
-few_counted numbers es at count inside is =
-    let parts = length-filter_both (is_chosen numbers) (λ e. not (is_chosen numbers e)) (λ e. refl) (take at es) in
-    let long = length-take at es in
-    omega (arith, is, parts, long)
+pub gathered_more : (texts : List (List ℕ)) (most : ℕ) (es : List Entry) (at : ℕ) (old new : List SharedDocument) (e : Entry) → at < length es → e ≡ get_or es at e
+    → AreFirstUnder texts most (take at es) old → Adds texts most e old new → AreFirstUnder texts most (take (at + 1) es) new
+gathered_more texts most es at old new e inside e_is is adds =
+    let p : Entry → Bool = λ x. is_under_one texts x.0 in
+    subst (λ xs. AreFirstEntries most xs (shared_entries new))
+    (sym (filter_next p es at e inside ∙ ap (λ (x : Entry). filter p (take at es) ++ only_if (p x) x) (sym e_is)))
+    (subst (AreFirstEntries most (filter p (take at es) ++ only_if (p e) e))
+    (sym (adds ∙ ap (λ (n : ℕ). shared_entries old ++ only_if (nat_lt n most && p e) e) (sym (length-map old shared_entry))))
+    (first_next most (filter p (take at es)) (shared_entries old) e (p e) is))
 
-module _ (numbers : List ℕ) (texts : List (List ℕ)) (most : ℕ) (es : List Entry) (at count : ℕ) (old : List SharedDocument) (e : Entry)
-    (inside : at < length es) (e_is : e ≡ get_or es at e) (is : GatheredTo numbers texts most es at count old) where
-  wanted_is : (t : Bool) → has numbers e.1.number ≡ t → is_wanted numbers texts (get_or es at e) ≡ (t && is_under_one texts e.0)
-  wanted_is t chosen = ap (is_wanted numbers texts) (sym e_is) ∙ ap (λ b. b && is_under_one texts e.0) chosen
+filter_both : (p q : Entry → Bool) (es : List Entry) → filter q (filter p es) ≡ filter (λ e. p e && q e) es
+filter_both p q [] = refl
+filter_both p q (e ∷ es) = go (p e) (q e) (filter_both p q es)
+  where
+    go : (t u : Bool) → filter q (filter p es) ≡ filter (λ e. p e && q e) es
+        → filter q (cond t (e ∷ filter p es) (filter p es)) ≡ cond (t && q e) (e ∷ filter (λ e. p e && q e) es) (filter (λ e. p e && q e) es)
+    go true u rest = ap (λ (xs : List Entry). cond (q e) (e ∷ xs) xs) rest
+    go false u rest = rest
 
-  pub gathered_same : has numbers e.1.number ≡ false → GatheredTo numbers texts most es (at + 1) count old
-  gathered_same not_chosen = record {
-    count_is =
-        is.count_is
-        ∙ sym (ap length (filter_next (is_chosen numbers) es at e inside
-        ∙ (ap (λ (t : Bool). filter (is_chosen numbers) (take at es) ++ only_if t (get_or es at e)) (ap (is_chosen numbers) (sym e_is) ∙ not_chosen)
-        ∙ append-nil (filter (is_chosen numbers) (take at es)))));
-    first =
-        subst (λ xs. AreFirstEntries most xs (shared_entries old))
-        (sym (filter_next (is_wanted numbers texts) es at e inside
-        ∙ (ap (λ (t : Bool). filter (is_wanted numbers texts) (take at es) ++ only_if t (get_or es at e)) (wanted_is false not_chosen)
-        ∙ append-nil (filter (is_wanted numbers texts) (take at es))))) is.first;
-  }
-
-  pub gathered_more : (new : List SharedDocument) → has numbers e.1.number ≡ true → Adds texts most e old new
-      → GatheredTo numbers texts most es (at + 1) (count + 1) new
-  gathered_more new chosen adds = record {
-    count_is =
-        (let step = length-filter_more (is_chosen numbers) es at e inside in
-        let one : ◌≡◌ {A = ℕ} (cond (is_chosen numbers (get_or es at e)) 1 0) 1 = ap (λ (t : Bool). cond t 1 0) (ap (is_chosen numbers) (sym e_is) ∙ chosen) in
-        let before = is.count_is in
-        omega (arith, step, one, before));
-    first =
-        subst (λ xs. AreFirstEntries most xs (shared_entries new))
-        (sym (filter_next (is_wanted numbers texts) es at e inside
-        ∙ (ap (λ (t : Bool). filter (is_wanted numbers texts) (take at es) ++ only_if t (get_or es at e)) (wanted_is true chosen)
-        ∙ ap (λ (x : Entry). filter (is_wanted numbers texts) (take at es) ++ only_if (is_under_one texts e.0) x) (sym e_is))))
-        (subst (AreFirstEntries most (filter (is_wanted numbers texts) (take at es) ++ only_if (is_under_one texts e.0) e))
-        (sym (adds ∙ ap (λ (n : ℕ). shared_entries old ++ only_if (nat_lt n most && is_under_one texts e.0) e) (sym (length-map old shared_entry))))
-        (first_next most (filter (is_wanted numbers texts) (take at es)) (shared_entries old) e (is_under_one texts e.0) is.first));
-  }
-
-pub gathered_all : (numbers : List ℕ) (texts : List (List ℕ)) (most : ℕ) (es : List Entry) (at : ℕ) (found : Candidates) → length es ≤ at
-    → GatheredTo numbers texts most es at found.count found.documents.items → AreGathered numbers texts most es found
-gathered_all numbers texts most es at found past is = record {
-  count = is.count_is ∙ ap (λ xs. length (filter (is_chosen numbers) xs)) (take_all at es past);
+-- what is gathered of the names with these contents
+pub gathered_all : (numbers : List ℕ) (texts : List (List ℕ)) (most : ℕ) (es ns : List Entry) (found : Candidates) → ns ≡ filter (is_chosen numbers) es
+    → found.count ≡ length ns → AreFirstUnder texts most ns found.documents.items → AreGathered numbers texts most es found
+gathered_all numbers texts most es ns found are count first = record {
+  count = count ∙ ap length are;
   first =
-      subst (λ xs. AreFirstEntries most (filter (is_wanted numbers texts) xs) (shared_entries found.documents.items)) (take_all at es past) is.first;
+      subst (λ xs. AreFirstEntries most xs (shared_entries found.documents.items))
+      (ap (filter (λ (e : Entry). is_under_one texts e.0)) are ∙ filter_both (is_chosen numbers) (λ e. is_under_one texts e.0) es) first;
 }
 
 -- ---- what a corpus promises
@@ -211,21 +181,23 @@ adds_one texts most e old new d fewer under new_is name number held =
 
 -- ---- what is found among the names that are given
 
-pub few_given : (contents : Contents) (items given : List Named) → entries_of items ≡ entries contents → given ≡ items → len contents < 2 ^ 32
-    → length given < 2 ^ 32
-few_given contents items given are same few =
-    let long : length given ≡ length (entries_of items) = ap length same ∙ sym (length-map items entry_of) in
-    let count : length (entries_of items) ≡ len contents = ap length are ∙ sym (len-entries contents) in
-    omega (arith, long, count, few)
+pub few_chosen : (numbers : List ℕ) (contents : Contents) (named : List Named) → entries_of named ≡ filter (is_chosen numbers) (entries contents)
+    → len contents < 2 ^ 32 → length named < 2 ^ 32
+few_chosen numbers contents named are few =
+    let long : length named ≡ length (filter (is_chosen numbers) (entries contents)) = sym (length-map named entry_of) ∙ ap length are in
+    let parts = length-filter_both (is_chosen numbers) (λ e. not (is_chosen numbers e)) (λ e. refl) (entries contents) in
+    let count = len-entries contents in
+    omega (arith, long, parts, count, few)
 
 pub found_are : (version : ℕ) (contents : Contents) (all : List Trigrams) → IsVersion version version contents all → (formula : Formula)
     (numbers ready : List ℕ) (texts : List (List ℕ)) (most : ℕ) (found : Candidates) (items given : List Named)
-    → ((n : ℕ) → has numbers n ≡ has (selected formula all) n) → ready ≡ numbers → entries_of items ≡ entries contents → given ≡ items
-    → AreGathered ready texts most (entries_of given) found → AreCandidates formula texts most (bodies_of contents) found
-found_are version contents all is formula numbers ready texts most found items given chosen ready_is are same gathered =
+    → ((n : ℕ) → has numbers n ≡ has (selected formula all) n) → ready ≡ numbers → entries_of items ≡ filter (is_chosen ready) (entries contents) → given ≡ items
+    → found.count ≡ length items → AreFirstUnder texts most (entries_of given) found.documents.items → AreCandidates formula texts most (bodies_of contents) found
+found_are version contents all is formula numbers ready texts most found items given chosen ready_is are same count first =
     candidates_are version version contents all is formula ready texts most found (omega arith)
     (λ n. ap (λ ns. has ns n) ready_is ∙ chosen n)
-    (subst (λ es. AreGathered ready texts most es found) (ap entries_of same ∙ are) gathered)
+    (gathered_all ready texts most (entries contents) (entries_of items) found are (count ∙ sym (length-map items entry_of))
+    (subst (λ (ns : List Named). AreFirstUnder texts most (entries_of ns) found.documents.items) same first))
 
 pub given_at : (entries : List Named) (place : ℕ) (n : Named) → place < length entries → n ≡ get_or entries place n
     → entry_of n ≡ get_or (entries_of entries) place (entry_of n)

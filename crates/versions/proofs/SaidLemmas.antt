@@ -1,5 +1,5 @@
 -- What segments say of contents.
-use Rattle.std.proofs.Common.{◌≡◌, ◌≢◌, ℕ, zero, suc, ◌+◌, ◌<◌, ◌≤◌, ◌==◌, ◌⊎◌, inl, inr, true, List, [], ◌∷◌, ◌++◌, length, take, get_or, Contains, sym, ◌∙◌, ap, subst, arith}
+use Rattle.std.proofs.Common.{◌≡◌, ◌≢◌, ℕ, zero, suc, ◌+◌, ◌<◌, ◌≤◌, ◌==◌, ◌⊎◌, inl, inr, true, List, [], ◌∷◌, ◌++◌, length, take, drop, get_or, Contains, sym, ◌∙◌, ap, subst, arith}
 use Rattle.std.specs.Prelude.{All, AllPairs, filter, eqb}
 use Rattle.std.specs.Arc.{arc_value}
 use Rattle.std.specs.declared.sync.Arc.{Arc}
@@ -10,7 +10,7 @@ use Rattle.std.proofs.lemmas.List.Sorted.{list_any-IsPermutation}
 use Rattle.std.proofs.lemmas.Grind.{flat_map-append}
 use Rattle.std.proofs.Math.Path.{fun_ext}
 use Rattle.std.proofs.lemmas.Bool.{eq-eqb}
-use Rattle.std.proofs.lemmas.List.{map-append, append-nil, take_more, take_all}
+use Rattle.std.proofs.lemmas.List.{map-append, append-nil, take_more, take_all, take-append-drop}
 use Rattle.std.proofs.lemmas.List.Folds.{list_any_at}
 use Rattle.std.proofs.lemmas.List.Kept.{AllPairs-cons, AllPairs-from_increasing}
 use Rattle.std.proofs.lemmas.List.Elements.{All-contains, All-head, All-tail, All-append, All-weaker, All-map, filter-append}
@@ -48,7 +48,7 @@ unique (x ∷ all) differ c d here there same =
     go (inr later) (inl is) rest = absurd (apart c later (ap (λ (z : Trigrams). z.number) is ∙ sym same))
     go (inr one) (inr other) rest = rest one other
 
-pairs-append : {X : Type 0} (P : X → X → Type 0) (xs ys : List X) → AllPairs P xs → AllPairs P ys → All (λ x. All (P x) ys) xs → AllPairs P (xs ++ ys)
+pub pairs-append : {X : Type 0} (P : X → X → Type 0) (xs ys : List X) → AllPairs P xs → AllPairs P ys → All (λ x. All (P x) ys) xs → AllPairs P (xs ++ ys)
 pairs-append P [] ys first second cross = second
 pairs-append P (x ∷ xs) ys first second cross =
     AllPairs-cons P x (xs ++ ys)
@@ -133,3 +133,12 @@ selected_all formula segments given at now numbers sorted ready past same view_i
     ∙ (has-dedup sorted n
     ∙ (sym (list_any-IsPermutation (λ m. m == n) numbers sorted moved)
     ∙ ap (λ ns. has ns n) (is ∙ ap (λ ss. selected formula (said ss)) (take_all at given past ∙ same) ∙ ap (selected formula) view_is)))
+
+-- the first segments, and the others
+pub said_parts : (segments given front back : List (Arc (List Trigrams) Global)) (at : ℕ) → given ≡ segments → front ≡ take at given → back ≡ drop at given
+    → said front ++ said back ≡ said segments
+said_parts segments given front back at same front_is back_is =
+    ap (λ x. said x ++ said back) front_is
+    ∙ (ap (λ x. said (take at given) ++ said x) back_is
+    ∙ (sym (flat_map-append arc_value (take at given) (drop at given))
+    ∙ ap said (take-append-drop at given ∙ same)))

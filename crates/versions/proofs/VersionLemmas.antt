@@ -16,13 +16,16 @@ use Rattle.prefixes.specs.Under.{begins_with}
 use Rattle.documents.specs.Text.{IsName, IsBody}
 use Rattle.documents.proofs.ListedLemmas.{found-listed}
 use Rattle.names.specs.declared.content.Content.{Content}
-use Rattle.names.specs.declared.content.Named.{Named}
-use Rattle.names.specs.Contents.{Contents, entries_of}
+use Rattle.std.specs.Borrow.{Bor}
+use Rattle.names.specs.Contents.{Contents, contents_of, since}
 use Rattle.segments.specs.Contents.{Content as Trigrams}
 use Rattle.versions.specs.Private.Version.{Entry, bodies_of, IsSaid, IsEntry, IsVersion}
-use Rattle.versions.specs.Private.Fresh.{no_entry, entry_at, number_at, AreAnalysed, NumbersTell}
+use Rattle.versions.specs.Private.Fresh.{no_entry, unnamed, entry_at, number_at, AreAnalysed}
 use Rattle.versions.proofs.BodyLemmas.{R, same_name, alike, get-bodies, entry_found, found_entry, bodies-insert, bodies-remove, bodies-retain}
+use Rattle.versions.specs.Private.Merging.{KeepsNamed}
 use Rattle.versions.proofs.SaidLemmas.{differ-append}
+use Rattle.versions.proofs.SinceLemmas.{analysed_all}
+use Rattle.versions.proofs.MergeLemmas.{still_version}
 
 -- ---- no commands
 
@@ -147,15 +150,6 @@ entry_is es e there = (there.0, there.1, get_or_inside es there.0 e there.1 ∙ 
 
 module _ (version analysed : ℕ) (contents : Contents) (all more : List Trigrams) (es : List Entry) (is : IsVersion version analysed contents all)
     (entries_are : es ≡ entries contents) where
-  at_place : (i : ℕ) → i < length es → get contents (entry_at es i).0 ≡ Some (entry_at es i).1
-  at_place i inside =
-      entry_found contents (entry_at es i)
-      (subst (λ (xs : List Entry). Contains xs (entry_at es i)) entries_are (i, inside, get_or_default es i (entry_at es i) no_entry inside))
-
-  -- what is asked for when they are analysed
-  pub tell : NumbersTell es
-  tell i j inside within e = is.same (entry_at es i).0 (entry_at es j).0 (entry_at es i).1 (entry_at es j).1 (at_place i inside) (at_place j within) e
-
   module _ (are : AreAnalysed analysed version es more) where
     said_then : (name : List ℕ) (c : Content) → get contents name ≡ Some c → IsSaid (all ++ more) c
     said_then name c found = go (cases_lt c.number analysed)
@@ -241,20 +235,25 @@ remove_under_done version old new text now next view_is new_is is =
     ∙ (ap (state (version + 1)) (ap bodies_of new_is ∙ bodies-retain old (λ name. not (begins_with text name)))
     ∙ ap (applied (RemoveUnder text)) view_is)
 
--- what is given out of a map with these names is its entries
-pub given_tell : (version analysed : ℕ) (contents : Contents) (all : List Trigrams) (items given : List Named) → IsVersion version analysed contents all
-    → entries_of items ≡ entries contents → given ≡ items → NumbersTell (entries_of given)
-given_tell version analysed contents all items given is entries_are same =
-    tell version analysed contents all [] (entries_of given) is (ap entries_of same ∙ entries_are)
-
-pub whole_made : (version analysed count : ℕ) (contents names : Contents) (all more sets : List Trigrams) (items given : List Named)
-    → IsVersion version analysed contents all → entries_of items ≡ entries contents → given ≡ items → analysed + count ≡ version
-    → AreAnalysed analysed (analysed + count) (entries_of given) more → sets ≡ all ++ more → names ≡ contents → IsVersion version version names sets
-whole_made version analysed count contents names all more sets items given is entries_are same sum are sets_are names_are =
+-- what is analysed of the late contents makes a version whole
+pub whole_made : (version analysed count : ℕ) (contents names : Contents) (all more sets : List Trigrams) (given : List (Bor Content))
+    → IsVersion version analysed contents all → contents_of given ≡ since analysed contents → analysed + count ≡ version
+    → AreAnalysed analysed (analysed + count) (unnamed given) more → sets ≡ all ++ more → names ≡ contents → IsVersion version version names sets
+whole_made version analysed count contents names all more sets given is given_is sum are sets_are names_are =
     subst (λ (cs : Contents). IsVersion version version cs sets) (sym names_are)
     (subst (IsVersion version version contents) (sym sets_are)
-    (made_whole version analysed contents all more (entries_of given) is (ap entries_of same ∙ entries_are)
-    (subst (λ (end : ℕ). AreAnalysed analysed end (entries_of given) more) sum are)))
+    (made_whole version analysed contents all more (entries contents) is refl
+    (analysed_all analysed version contents given more given_is (subst (λ (end : ℕ). AreAnalysed analysed end (unnamed given) more) sum are))))
+
+-- and what is made of its segments then
+pub settled_made : (version analysed count : ℕ) (contents names : Contents) (all more joined sets : List Trigrams) (given : List (Bor Content))
+    → IsVersion version analysed contents all → contents_of given ≡ since analysed contents → analysed + count ≡ version
+    → AreAnalysed analysed (analysed + count) (unnamed given) more → joined ≡ all ++ more → KeepsNamed contents joined sets → names ≡ contents
+    → IsVersion version version names sets
+settled_made version analysed count contents names all more joined sets given is given_is sum are joined_is keeps names_are =
+    subst (λ (cs : Contents). IsVersion version version cs sets) (sym names_are)
+    (still_version version version contents joined sets
+    (whole_made version analysed count contents contents all more joined given is given_is sum are joined_is refl) keeps)
 
 -- ---- the same again
 

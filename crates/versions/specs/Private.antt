@@ -2,3 +2,5 @@
 pub mod Version
 pub mod Fresh
 pub mod Gathered
+pub mod Merging
+pub mod Growing

@@ -1,20 +1,25 @@
 //! An index to which commands are applied, before its bodies are analysed.
 
-ghost use Rattle.std.specs.Prelude.{◌≡◌, ◌+◌, ◌<◌, ◌^◌, option_map, IfOk};
-ghost use Rattle.std.specs.FinMap.{get, len};
-ghost use Rattle.documents.specs.declared.command.Command.TheVariants.{Put as put_command, Remove as remove_command, RemoveUnder as remove_under_command};
-ghost use Rattle.documents.specs.Documents.{has_under};
-ghost use Rattle.documents.specs.State.{state, applied, body_bytes};
+ghost use Rattle.std.specs.Prelude.{◌≡◌, ◌+◌, ◌<◌, ◌^◌, [], IfOk, length};
+ghost use Rattle.std.specs.FinMap.{len};
+ghost use Rattle.documents.specs.declared.command.Command.TheVariants.{Put as put_command, Remove as remove_command, RemoveUnder as remove_under_command, CopyUnder as copy_under_command};
+ghost use Rattle.documents.specs.Documents.{has_under, has_long_copy, is_taken};
+ghost use Rattle.documents.specs.State.{state, state_of, applied};
+ghost use Rattle.versions.specs.Updates.{after, command_of, commands_of};
+ghost use Rattle.versions.specs.Private.Growing.{commands_put, AreNumbered};
 ghost use Rattle.versions.specs.Private.Version.{bodies_of, IsVersion};
 
 use crate::bodies::body_under;
-use crate::fresh::fresh_segment;
+use crate::fresh::fresh_sets;
+use crate::growing::Growing;
 use crate::index::Index;
 use crate::sets::Sets;
-use documents::{Body, Held, Name};
-use names::{Content, Names};
-use std::alloc::AllocError;
+use crate::update::Update;
+use documents::{Held, MAX_NAME, Name};
+use names::{Content, Names, Put};
+use std::alloc::{AllocError, Global};
 use std::marker::Model;
+use std::thread::Threads;
 
 /// The documents that commands leave. It never changes: a command makes another one, which shares with it what is the same.
 ///
@@ -44,25 +49,18 @@ impl Model for Draft {
 }
 
 impl Draft {
+    /// No commands. It takes no memory.
+    pub fn new(alloc: Global) -> Draft
+        ensures { result ≡ state_of [] }
+    {
+        Draft::of(0, 0, Names::new(alloc), Sets::new(alloc))
+    }
+
     /// How many commands were applied.
     pub fn version(&self) -> u32
         ensures { result ≡ self.now.version }
     {
         self.version
-    }
-
-    /// How many documents there are.
-    pub fn documents(&self) -> usize
-        ensures { result ≡ len self.now.documents }
-    {
-        self.names.len()
-    }
-
-    /// The total length of the documents' bodies, in bytes. A body that several documents have counts for each of them.
-    pub fn held_bytes(&self) -> u64
-        ensures { result ≡ body_bytes self.now.documents }
-    {
-        self.names.bytes()
     }
 
     /// Whether the name of some document begins with a text.
@@ -72,17 +70,75 @@ impl Draft {
         self.names.has_under(text.as_bytes())
     }
 
-    /// The body of the document with this name, if there is one.
-    pub fn body(&self, name: &Name) -> Option<&Body>
-        ensures { option_map (λ body. body.now) result ≡ get self.now.documents name.now }
+    /// Whether a document has this name.
+    pub fn has(&self, name: &Name) -> bool
+        ensures { result ≡ is_taken name.now self.now.documents }
     {
-        body_under(&self.names, name)
+        body_under(&self.names, name).is_some()
     }
 
-    /// The documents after the `Put` of this name and body, of which a handle is kept. At most 4,294,967,295 (2^32 - 1) commands can
-    /// be applied. An `Err` means that memory ran out, that something has too many handles, or that there would be more than
-    /// 4,294,967,295 documents.
-    pub fn put(&self, name: &Name, held: &Held) -> Result<Draft, AllocError>
+    /// Whether the copy of some document whose name begins with `from`, under the name with `to` in its place, would have a name of more
+    /// than `most` bytes.
+    pub fn has_long_copy(&self, from: &Name, to: &Name, most: usize) -> bool
+        ensures { result ≡ has_long_copy most from.now to.now self.now.documents }
+    {
+        self.names
+            .has_long_copy(from.as_bytes(), to.as_bytes(), most)
+    }
+
+    /// The same documents again. An `Err` means that memory ran out, or that something has too many handles.
+    pub fn share(&self) -> Result<Draft, AllocError>
+        ensures { IfOk result (λ draft. draft ≡ self.now) }
+    {
+        Ok(Draft::of(
+            self.version,
+            self.analysed,
+            self.names.share()?,
+            self.sets.share()?,
+        ))
+    }
+
+    /// The documents after these commands, one after the other. At most 4,294,967,295 (2^32 - 1) commands can be applied. An `Err` means
+    /// that memory ran out, that something has too many handles, that there would be more than 4,294,967,295 documents, or that a copy
+    /// would have a name of more than `MAX_NAME` bytes.
+    pub fn after(&self, updates: &[Update]) -> Result<Draft, AllocError>
+        requires { self.now.version + length updates.now < 2 ^ 32 }
+        ensures { IfOk result (λ next. next ≡ after (commands_of updates.now) self.now) }
+    {
+        let alloc = self.sets.allocator();
+        let mut next = Growing::of(alloc, self.share()?);
+        for update in updates {
+            next = next.with(alloc, update)?;
+        }
+        next.settled()
+    }
+
+    /// The documents after these puts, whose numbers follow the version. An `Err` is as that of `after`.
+    pub(crate) fn with_puts(&self, puts: &[Put<'_>]) -> Result<Draft, AllocError>
+        requires few { self.now.version + length puts.now < 2 ^ 32 }
+        requires numbered { AreNumbered self.now.version puts.now }
+        ensures { IfOk result (λ next. next ≡ after (commands_put puts.now) self.now) }
+    {
+        let names = self.names.with_all(puts)?;
+        let version = self.version + puts.len() as u32;
+        next(version, self.analysed, names, &self.sets)
+    }
+
+    /// The documents after one more command. An `Err` is as that of `after`.
+    pub(crate) fn with(&self, update: &Update) -> Result<Draft, AllocError>
+        requires { self.now.version + 1 < 2 ^ 32 }
+        ensures { IfOk result (λ next. next ≡ applied (command_of update.now) self.now) }
+    {
+        match update {
+            Update::Put(name, held) => self.put(name, held),
+            Update::Remove(name) => self.remove(name),
+            Update::RemoveUnder(prefix) => self.remove_under(prefix),
+            Update::CopyUnder(from, to) => self.copy_under(from, to),
+        }
+    }
+
+    /// The documents after the `Put` of this name and body, of which a handle is kept.
+    fn put(&self, name: &Name, held: &Held) -> Result<Draft, AllocError>
         requires { self.now.version + 1 < 2 ^ 32 }
         ensures { IfOk result (λ next. next ≡ applied (put_command name.now held.now) self.now) }
     {
@@ -93,37 +149,60 @@ impl Draft {
             held: held.share()?,
         };
         let names = self.names.put(name.as_bytes(), content)?;
-        next(self.version, self.analysed, names, &self.sets)
+        next(self.version + 1, self.analysed, names, &self.sets)
     }
 
-    /// The documents after the `Remove` of this name. The limit and an `Err` are as those of `put`.
-    pub fn remove(&self, name: &Name) -> Result<Draft, AllocError>
+    /// The documents after the `Remove` of this name.
+    fn remove(&self, name: &Name) -> Result<Draft, AllocError>
         requires { self.now.version + 1 < 2 ^ 32 }
         ensures { IfOk result (λ next. next ≡ applied (remove_command name.now) self.now) }
     {
         let names = self.names.remove(name.as_bytes())?;
-        next(self.version, self.analysed, names, &self.sets)
+        next(self.version + 1, self.analysed, names, &self.sets)
     }
 
-    /// The documents after the `RemoveUnder` of this prefix. The limit and an `Err` are as those of `put`.
-    pub fn remove_under(&self, prefix: &Name) -> Result<Draft, AllocError>
+    /// The documents after the `RemoveUnder` of this prefix.
+    fn remove_under(&self, prefix: &Name) -> Result<Draft, AllocError>
         requires { self.now.version + 1 < 2 ^ 32 }
         ensures { IfOk result (λ next. next ≡ applied (remove_under_command prefix.now) self.now) }
     {
         let names = self.names.remove_under(prefix.as_bytes())?;
-        next(self.version, self.analysed, names, &self.sets)
+        next(self.version + 1, self.analysed, names, &self.sets)
     }
 
-    /// The same documents as an index that can be searched: the bodies that are in no segment yet are analysed, and become one. An
-    /// `Err` means that memory ran out, or that something has too many handles.
-    pub fn whole(&self) -> Result<Index, AllocError>
+    /// The documents after the `CopyUnder` of these texts.
+    fn copy_under(&self, from: &Name, to: &Name) -> Result<Draft, AllocError>
+        requires { self.now.version + 1 < 2 ^ 32 }
+        ensures { IfOk result (λ next. next ≡ applied (copy_under_command from.now to.now) self.now) }
+    {
+        let (old, new) = (from.as_bytes(), to.as_bytes());
+        if self.names.has_long_copy(old, new, MAX_NAME) {
+            return Err(AllocError);
+        }
+        let names = self.names.copy_under(old, new)?;
+        next(self.version + 1, self.analysed, names, &self.sets)
+    }
+
+    /// The same documents as an index that can be searched: the bodies that are in no segment yet are analysed, in up to `threads`
+    /// threads, and become segments, which the draft keeps. An `Err` means that memory ran out, or that something has too many handles.
+    pub fn whole<R: Threads + Sync>(&mut self, rt: &R, threads: usize) -> Result<Index, AllocError>
+        ensures same { self.new ≡ self.old }
+        ensures ok { IfOk result (λ index. index ≡ self.old) }
+    {
+        let index = self.analysed_anew(rt, threads)?;
+        *self = index.draft()?;
+        Ok(index)
+    }
+
+    /// The same documents as an index, with a segment of the bodies that are in no segment yet.
+    fn analysed_anew<R: Threads + Sync>(&self, rt: &R, threads: usize) -> Result<Index, AllocError>
         ensures { IfOk result (λ index. index ≡ self.now) }
     {
         let alloc = self.sets.allocator();
-        let entries = self.names.entries()?;
+        let contents = self.names.since(self.analysed)?;
         let count = (self.version - self.analysed) as usize;
-        let segment = fresh_segment(alloc, &entries, self.analysed, count)?;
-        let sets = self.sets.with(segment)?;
+        let fresh = fresh_sets(rt, alloc, threads, &contents, self.analysed as usize, count)?;
+        let sets = self.sets.share()?.joined(fresh)?.settled(&self.names)?;
         Ok(Index::of(self.version, self.names.share()?, sets))
     }
 
@@ -142,14 +221,13 @@ impl Draft {
     }
 }
 
-/// What a command leaves: these names, and the same segments.
+/// What commands leave: these names, and the same segments.
 fn next(version: u32, analysed: u32, names: Names, sets: &Sets) -> Result<Draft, AllocError>
-    requires few { version + 1 < 2 ^ 32 }
-    requires whole { IsVersion (version + 1) analysed names sets.now }
-    ensures { IfOk result (λ next. next ≡ state (version + 1) (bodies_of names)) }
+    requires whole { IsVersion version analysed names sets.now }
+    ensures { IfOk result (λ next. next ≡ state version (bodies_of names)) }
 {
     if names.len() >= 4_294_967_296 {
         return Err(AllocError);
     }
-    Ok(Draft::of(version + 1, analysed, names, sets.share()?))
+    Ok(Draft::of(version, analysed, names, sets.share()?))
 }

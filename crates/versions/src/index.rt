@@ -107,7 +107,7 @@ impl Corpus for Index {
         self.names.len() as u32
     }
 
-    /// Each segment is asked for the contents that meet the query, and then all names are gone through.
+    /// Each segment is asked for the contents that meet the query, and then the names that have them are gone through.
     fn candidates<W: Watch>(
         &self,
         alloc: Global,
@@ -117,7 +117,11 @@ impl Corpus for Index {
         watch: &mut W,
     ) -> Result<Candidates, Unanswered> {
         let chosen = self.sets.select(alloc, query, watch)?;
-        let entries = self.names.entries()?;
-        gather(alloc, &entries, &chosen, prefixes, most, watch)
+        let named = self.names.chosen(alloc, &chosen, watch)?;
+        let documents = gather(alloc, &named, prefixes, most, watch)?;
+        Ok(Candidates {
+            count: named.len() as u32,
+            documents,
+        })
     }
 }

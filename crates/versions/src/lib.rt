@@ -5,8 +5,12 @@ mod bodies;
 mod draft;
 mod fresh;
 mod gather;
+mod growing;
 mod index;
+mod merging;
 mod sets;
+mod update;
 
 pub use draft::Draft;
 pub use index::Index;
+pub use update::Update;

@@ -4,9 +4,12 @@ ghost use Rattle.std.specs.Prelude.{◌≡◌, ◌++◌, ℕ, [], IfOk, IfErr};
 ghost use Rattle.std.specs.List.Sorted.{IsStrictlyIncreasing};
 ghost use Rattle.query.specs.Query.{formula_of};
 ghost use Rattle.watch.specs.CalledOff.{IsCalledOffOnlyIf};
-ghost use Rattle.segments.specs.Contents.{has, selected};
+ghost use Rattle.segments.specs.Contents.{has, selected, AllDiffer};
 ghost use Rattle.versions.specs.Private.Version.{said};
+ghost use Rattle.versions.specs.Private.Merging.{KeepsNamed};
 
+use crate::merging::{due, merged};
+use names::Names;
 use query::Query;
 use segments::Segment;
 use std::alloc::{AllocError, Global};
@@ -42,6 +45,28 @@ impl Sets {
         }
     }
 
+    /// These segments.
+    pub(crate) fn of(segments: Vec<Arc<Segment>>) -> Sets
+        ensures { result ≡ said segments.items }
+    {
+        Sets { segments }
+    }
+
+    /// The segments, of which the last ones become one if that is due: contents that none of these names has go then. An `Err` means
+    /// that memory ran out, or that a segment has too many handles.
+    pub(crate) fn settled(self, names: &Names) -> Result<Sets, AllocError>
+        requires differ { AllDiffer self }
+        ensures { IfOk result (λ sets. KeepsNamed names.now self sets) }
+    {
+        let due = due(&self.segments, names.len());
+        if due < 2 {
+            return Ok(self);
+        }
+        let at = self.segments.len().saturating_sub(due);
+        let (old, new) = self.segments.split_at(at);
+        merged(self.allocator(), old, new, names)
+    }
+
     /// Where its memory comes from.
     pub(crate) fn allocator(&self) -> Global {
         *self.segments.allocator()
@@ -51,17 +76,27 @@ impl Sets {
     pub(crate) fn share(&self) -> Result<Sets, AllocError>
         ensures { IfOk result (λ sets. sets ≡ self.now) }
     {
-        let segments = shared(&self.segments, self.allocator(), 0)?;
+        let segments = shared(&self.segments, self.allocator())?;
         Ok(Sets { segments })
     }
 
-    /// The segments with one more. An `Err` is as that of `share`.
-    pub(crate) fn with(&self, segment: Segment) -> Result<Sets, AllocError>
-        ensures { IfOk result (λ sets. sets ≡ self.now ++ segment) }
+    /// The segments with one more. An `Err` means that memory ran out.
+    pub(crate) fn with(self, segment: Segment) -> Result<Sets, AllocError>
+        ensures { IfOk result (λ sets. sets ≡ self ++ segment) }
     {
-        let alloc = self.allocator();
-        let mut segments = shared(&self.segments, alloc, 1)?;
+        let Sets { mut segments } = self;
+        let alloc = *segments.allocator();
         segments.push(Arc::new(alloc, segment)?)?;
+        Ok(Sets { segments })
+    }
+
+    /// The segments, and then those of the others. An `Err` means that memory ran out.
+    pub(crate) fn joined(self, others: Sets) -> Result<Sets, AllocError>
+        ensures { IfOk result (λ sets. sets ≡ self ++ others) }
+    {
+        let Sets { mut segments } = self;
+        let Sets { segments: mut more } = others;
+        segments.append(&mut more)?;
         Ok(Sets { segments })
     }
 
@@ -87,15 +122,14 @@ impl Sets {
     }
 }
 
-/// Another handle to each of these segments, with room for some more.
-fn shared(
+/// Another handle to each of these segments.
+pub(crate) fn shared(
     segments: &[Arc<Segment>],
     alloc: Global,
-    more: usize,
 ) -> Result<Vec<Arc<Segment>>, AllocError>
     ensures { IfOk result (λ shared. said shared.items ≡ said segments.now) }
 {
-    let mut shared = Vec::with_capacity(alloc, segments.len().saturating_add(more))?;
+    let mut shared = Vec::with_capacity(alloc, segments.len())?;
     for segment in segments {
         shared.push(Arc::try_clone(segment)?)?;
     }

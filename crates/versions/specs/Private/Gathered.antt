@@ -27,6 +27,10 @@ pub record AreFirstEntries (most : ℕ) (all first : List Entry) : Type 0 where
   pub whole : first ++ others ≡ all
   pub all_or_most : length first < most → others ≡ []
 
+-- They are the first of these entries whose names begin with one of the texts.
+abbrev pub AreFirstUnder : List (List ℕ) → ℕ → List Entry → List SharedDocument → Type 0
+AreFirstUnder texts most es documents = AreFirstEntries most (filter (λ e. is_under_one texts e.0) es) (shared_entries documents)
+
 -- an entry alone, if the test says so
 abbrev pub only_if : Bool → Entry → List Entry
 only_if test e = cond test (e ∷ []) []

@@ -8,10 +8,10 @@ use Rattle.versions.proofs.draft.next.Goals as goal
 pub of-requires : goal.of-requires
 of-requires c = record {
   whole =
-      subst (λ (ns : Contents). IsVersion (c.args.version + 1) c.args.analysed ns c.in_ok-share.field-0) (sym c.names.view_is)
-      (subst (IsVersion (c.args.version + 1) c.args.analysed c.args.names) (sym c.in_ok-share.ensures) c.requires.whole);
+      subst (λ (ns : Contents). IsVersion (c.args.version) c.args.analysed ns c.in_ok-share.field-0) (sym c.names.view_is)
+      (subst (IsVersion (c.args.version) c.args.analysed c.args.names) (sym c.in_ok-share.ensures) c.requires.whole);
   few = (let is = c.len.ensures in subst (λ (ns : Contents). len ns < 2 ^ 32) (sym c.names.view_is) (omega (arith, is)));
 }
 
 pub returns : goal.returns
-returns c = c.of.ensures ∙ ap (λ (ns : Contents). state (c.args.version + 1) (bodies_of ns)) c.names.view_is
+returns c = c.of.ensures ∙ ap (λ (ns : Contents). state (c.args.version) (bodies_of ns)) c.names.view_is

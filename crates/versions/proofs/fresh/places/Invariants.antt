@@ -1,6 +1,5 @@
-use Rattle.names.specs.Contents.{entries_of}
-use Rattle.versions.specs.Private.Fresh.{ArePlaces}
+use Rattle.versions.specs.Private.Fresh.{unnamed, as_entry, ArePlaces}
 use Rattle.versions.proofs.fresh.places.Given as goal
 
 abbrev pub invariant-loop-place : goal.invariant-loop-place
-invariant-loop-place l = ArePlaces l.first l.count (entries_of l.entries) l.place l.places.items
+invariant-loop-place l = ArePlaces l.first l.count (unnamed l.contents) l.place l.places.items

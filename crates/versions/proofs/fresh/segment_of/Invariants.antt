@@ -1,7 +1,6 @@
-use Rattle.std.proofs.Common.{◌≡◌, take}
-use Rattle.segments.specs.Contents.{contents_of}
-use Rattle.versions.specs.Private.Fresh.{all_trigrams}
+use Rattle.std.proofs.Common.{◌+◌}
+use Rattle.versions.specs.Private.Fresh.{unnamed, AreAnalysed}
 use Rattle.versions.proofs.fresh.segment_of.Given as goal
 
-abbrev pub invariant-loop-analysis : goal.invariant-loop-analysis
-invariant-loop-analysis l = contents_of l.contents.items ≡ all_trigrams (take l.analysis-index l.analyses)
+abbrev pub invariant-loop-at : goal.invariant-loop-at
+invariant-loop-at l = AreAnalysed l.first (l.first + l.at) (unnamed l.contents) l.made

@@ -1,46 +1,25 @@
-use Rattle.std.proofs.Common.{◌<◌, ◌∙◌, length, sym, arith}
-use Rattle.std.proofs.lemmas.List.{length-map}
+use Rattle.std.proofs.Common.{◌<◌, length, ap, subst, arith}
+use Rattle.std.proofs.lemmas.List.{length-map, take_all}
 use Rattle.names.specs.Contents.{entry_of, entries_of}
-use Rattle.versions.proofs.GatherLemmas.{gathered_none, gathered_same, gathered_more, gathered_all, few_counted, given_at}
+use Rattle.versions.specs.Private.Gathered.{AreFirstUnder}
+use Rattle.versions.proofs.GatherLemmas.{gathered_none, gathered_more, given_at}
 use Rattle.versions.proofs.gather.gather.Goals as goal
-use Rattle.versions.proofs.gather.gather.Goals.{then-is_among+in_ok-add, else-is_among}
 
-pub loop-named-init : goal.loop-named-init
-loop-named-init g c =
-    gathered_none c.args.chosen.now c.args.prefixes.now c.args.most (entries_of c.args.entries.now) c.new-documents.result.items c.new-documents.ensures.items
+pub loop-one-init : goal.loop-one-init
+loop-one-init g c = gathered_none c.args.prefixes.now c.args.most (entries_of c.args.named.now) c.new-documents.result.items c.new-documents.ensures.items
 
-pub overflow_add-count : goal.overflow_add-count
-overflow_add-count g c =
-    let entries = c.args.entries.now in
-    let at = c.loop-named-test.true in
-    let long = length-map entries entry_of in
-    let few = c.requires.few in
-    let most = few_counted c.args.chosen.now (entries_of entries) c.loop-named.named-index c.loop-named.count (omega (arith, at, long)) c.loop-named.invariant.count_is in
-    omega (arith, most, at, few)
-
-pub loop-named-preserved : goal.loop-named-preserved
-loop-named-preserved g c =
-    let entries = c.args.entries.now in
-    let l = c.loop-named in
-    let at = c.loop-named-test.true in
-    let long = length-map entries entry_of in
-    let inside : l.named-index < length (entries_of entries) = omega (arith, at, long) in
-    let here = given_at entries l.named-index c.named-item.result at c.named-item.is in
-    elim c.if-is_among.branch [
-      | then-is_among+in_ok-add w ↦
-          rw (w.count-is, w.documents-is)
-          (gathered_more c.args.chosen.now c.args.prefixes.now c.args.most (entries_of entries) l.named-index l.count l.documents.items
-          (entry_of c.named-item.result) inside here l.invariant w.add.new.documents.items (sym c.is_among.ensures ∙ w.if-is_among.true) w.in_ok-add.ensures)
-      | else-is_among w ↦
-          rw (w.count-is, w.documents-is)
-          (gathered_same c.args.chosen.now c.args.prefixes.now c.args.most (entries_of entries) l.named-index l.count l.documents.items
-          (entry_of c.named-item.result) inside here l.invariant (sym c.is_among.ensures ∙ w.if-is_among.false))
-    ]
+pub loop-one-preserved : goal.loop-one-preserved
+loop-one-preserved g c =
+    let named = c.args.named.now in
+    let at = c.loop-one-test.true in
+    let long = length-map named entry_of in
+    let inside : c.loop-one.one-index < length (entries_of named) = omega (arith, at, long) in
+    gathered_more c.args.prefixes.now c.args.most (entries_of named) c.loop-one.one-index c.loop-one.documents.items c.add.new.documents.items
+    (entry_of c.one-item.result) inside (given_at named c.loop-one.one-index c.one-item.result at c.one-item.is) c.loop-one.invariant c.in_ok-add.ensures
 
 pub returns-clause-found : goal.returns-clause-found
 returns-clause-found g c =
-    let entries = c.args.entries.now in
-    let past = c.loop-named-test.false in
-    let long = length-map entries entry_of in
-    gathered_all c.args.chosen.now c.args.prefixes.now c.args.most (entries_of entries) c.loop-named.named-index
-    (record { count = c.loop-named.count; documents = c.loop-named.documents }) (omega (arith, past, long)) c.loop-named.invariant
+    let named = c.args.named.now in
+    let past = c.loop-one-test.false in
+    let long = length-map named entry_of in
+    subst (λ es. AreFirstUnder c.args.prefixes.now c.args.most es c.loop-one.documents.items) (take_all c.loop-one.one-index (entries_of named) (omega (arith, past, long))) c.loop-one.invariant

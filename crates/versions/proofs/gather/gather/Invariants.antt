@@ -1,6 +1,7 @@
+use Rattle.std.proofs.Common.{take}
 use Rattle.names.specs.Contents.{entries_of}
-use Rattle.versions.proofs.GatherLemmas.{GatheredTo}
+use Rattle.versions.specs.Private.Gathered.{AreFirstUnder}
 use Rattle.versions.proofs.gather.gather.Given as goal
 
-abbrev pub invariant-loop-named : goal.invariant-loop-named
-invariant-loop-named g l = GatheredTo l.chosen l.prefixes l.most (entries_of l.entries) l.named-index l.count l.documents.items
+abbrev pub invariant-loop-one : goal.invariant-loop-one
+invariant-loop-one g l = AreFirstUnder l.prefixes l.most (take l.one-index (entries_of l.named)) l.documents.items

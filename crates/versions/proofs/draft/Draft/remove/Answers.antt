@@ -13,7 +13,6 @@ names_are c = c.in_ok-names.ensures ∙ ap (λ k. remove c.self.inside.names k) 
 
 pub next-requires : goal.next-requires
 next-requires c = record {
-  few = (let same = ap (λ (s : State). s.version) c.self.view_is in let few = c.requires in omega (arith, same, few));
   whole =
       subst (λ ns. IsVersion (c.self.inside.version + 1) c.self.inside.analysed ns c.self.inside.sets) (sym (names_are c))
       (removed c.self.inside.version c.self.inside.analysed c.self.inside.names c.self.inside.sets c.args.name.now c.self.invariant.is);

@@ -15,7 +15,6 @@ names_are c = c.in_ok-names.ensures ∙ ap (λ k. retain_keys c.self.inside.name
 
 pub next-requires : goal.next-requires
 next-requires c = record {
-  few = (let same = ap (λ (s : State). s.version) c.self.view_is in let few = c.requires in omega (arith, same, few));
   whole =
       subst (λ ns. IsVersion (c.self.inside.version + 1) c.self.inside.analysed ns c.self.inside.sets) (sym (names_are c))
       (retained c.self.inside.version c.self.inside.analysed c.self.inside.names c.self.inside.sets (λ name. not (begins_with c.args.prefix.now name)) c.self.invariant.is);

@@ -1,27 +1,32 @@
-use Rattle.std.proofs.Common.{sym, subst}
+use Rattle.std.proofs.Common.{◌≡◌, ◌∙◌, length, sym, ap, subst, arith}
+use Rattle.std.specs.Prelude.{filter}
+use Rattle.std.specs.FinMap.{entries}
 use Rattle.std.specs.List.Sorted.{IsStrictlyIncreasing}
-use Rattle.std.proofs.lemmas.Result.{IfOk-weaker}
 use Rattle.query.specs.Query.{formula_of}
 use Rattle.documents.specs.State.{State}
 use Rattle.documents.specs.Shared.{AreCandidates}
 use Rattle.names.specs.Contents.{entries_of}
-use Rattle.versions.specs.Private.Gathered.{AreGathered}
-use Rattle.versions.proofs.GatherLemmas.{found_are, few_given}
+use Rattle.versions.specs.Private.Gathered.{is_chosen}
+use Rattle.versions.proofs.GatherLemmas.{found_are, few_chosen}
 use Rattle.versions.proofs.index.IndexCorpus.candidates.Goals as goal
 
-pub gather-requires : goal.gather-requires
-gather-requires g c = record {
-  rising = subst IsStrictlyIncreasing (sym c.deref-2.ensures.value) c.in_ok-chosen.ensures.rising;
-  few = few_given c.self.inside.names c.in_ok-entries.entries.items c.deref.result.now c.in_ok-entries.ensures c.deref.ensures.value c.self.invariant.few;
-}
+pub chosen-requires : goal.chosen-requires
+chosen-requires g c = subst IsStrictlyIncreasing (sym c.deref.ensures.value) c.in_ok-chosen.ensures.rising
+
+pub overflow_cast-result : goal.overflow_cast-result
+overflow_cast-result g c =
+    let named = c.in_ok-named.named in
+    let few = few_chosen c.deref.result.now c.self.inside.names named.items c.in_ok-named.ensures.found c.self.invariant.few in
+    let count = c.len.ensures in
+    let ok = named.ok.0 in
+    omega (arith, few, count, ok)
 
 pub returns-clause-candidates : goal.returns-clause-candidates
 returns-clause-candidates g c =
     let formula = formula_of c.args.query.now in
     let texts = c.args.prefixes.now in
-    IfOk-weaker c.gather.result (AreGathered c.deref-2.result.now texts c.args.most (entries_of c.deref.result.now))
-    (AreCandidates formula texts c.args.most c.args.self.now.documents)
-    (λ found gathered. subst (λ (s : State). AreCandidates formula texts c.args.most s.documents found) c.self.view_is
-    (found_are c.self.inside.version c.self.inside.names c.self.inside.sets c.self.invariant.is formula c.in_ok-chosen.chosen.items c.deref-2.result.now
-    texts c.args.most found c.in_ok-entries.entries.items c.deref.result.now c.in_ok-chosen.ensures.chosen c.deref-2.ensures.value
-    c.in_ok-entries.ensures c.deref.ensures.value gathered)) c.gather.ensures.found
+    let named = c.in_ok-named.named in
+    subst (λ (s : State). AreCandidates formula texts c.args.most s.documents (record { count = c.len.result; documents = c.in_ok-documents.documents })) c.self.view_is
+    (found_are c.self.inside.version c.self.inside.names c.self.inside.sets c.self.invariant.is formula c.in_ok-chosen.chosen.items c.deref.result.now
+    texts c.args.most (record { count = c.len.result; documents = c.in_ok-documents.documents }) named.items c.deref-2.result.now c.in_ok-chosen.ensures.chosen
+    c.deref.ensures.value c.in_ok-named.ensures.found c.deref-2.ensures.value (c.len.ensures ∙ named.ok.0) c.in_ok-documents.ensures.found)

@@ -6,9 +6,9 @@ use Rattle.versions.proofs.sets.Sets.with.Goals as goal
 
 pub returns : goal.returns
 returns c =
-    let segments = c.in_ok-segments.segments.items in
+    let segments = c.self.inside.segments.items in
     let segment = c.in_ok-new.field-0 in
     ap said c.in_ok-push.ensures.items
     ∙ (said_push segments segment
-    ∙ (ap (λ x. x ++ arc_value segment) (c.in_ok-segments.ensures ∙ (ap said c.deref.ensures.value ∙ c.self.view_is))
-    ∙ ap (λ x. c.args.self.now ++ x) c.in_ok-new.ensures.ok))
+    ∙ (ap (λ x. x ++ arc_value segment) c.self.view_is
+    ∙ ap (λ x. c.args.self ++ x) c.in_ok-new.ensures.ok))
