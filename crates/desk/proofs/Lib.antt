@@ -1,0 +1,4 @@
+pub mod Beginnings
+pub mod Turns
+pub mod PutLemmas
+pub mod PendingLemmas

@@ -1,0 +1,5 @@
+pub mod Counts
+pub mod History
+pub mod Desk
+pub mod Laws
+pub mod Private

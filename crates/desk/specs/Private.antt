@@ -1,0 +1,5 @@
+pub mod Batches
+pub mod Sight
+pub mod Rule
+pub mod Puts
+pub mod Pending
