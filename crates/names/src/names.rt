@@ -151,11 +151,7 @@ impl Names {
         let mut found = Vec::new(alloc);
         for chunk in &self.chunks {
             let near = chunk.near(numbers);
-            let steps = if near.is_empty() {
-                PASSED
-            } else {
-                chunk.len()
-            };
+            let steps = if near.is_empty() { PASSED } else { chunk.len() };
             pace.look_after(steps, watch)?;
             chunk.push_chosen(near, &mut found)?;
         }
