@@ -7,18 +7,20 @@ import collections
 import contextlib
 import dataclasses
 import json
+import os
 import time
 from typing import Any, Protocol
 
 from ..answers import Answer, View
 from ..errors import Cancelled, Ended, Error, OptionRefused, PatternRefused, SearchRefused, TooSlow
 from ..query import Query
-from . import editor_requests
+from . import editor_files, editor_requests
 from .editor_requests import BadRequest, Request, query_of, shown_text
 from .editor_rows import Form, Merging, in_batches, reading, rows_of
 from .following import Following, Gone
 from .hints import hint
 from .overlays import OverlayRefused, Overlays, without
+from .past import Past
 from .spool import Spool
 from .tree import Tree
 
@@ -30,6 +32,8 @@ _MOST_LIMIT = 4_294_967_295
 _MOST_NAMES = 1_000
 # What makes a file no document, and is no news to who searches text.
 _NO_TEXT = "binary"
+# The requests that a cancel gives up.
+_GIVEN_UP = ("find", "list", "compare")
 
 
 class Host(Protocol):
@@ -38,6 +42,10 @@ class Host(Protocol):
     @property
     def tree(self) -> Tree:
         """The tree."""
+
+    @property
+    def past(self) -> Past:
+        """What is kept of commits and patches."""
 
     @property
     def following(self) -> Following:
@@ -70,7 +78,7 @@ class Editor:
         self._spool = Spool(writer)
         self._overlays = Overlays()
         self._tasks: set[asyncio.Task[None]] = set()
-        # the finds that are under way, and the one that the next one cancels
+        # the finds, lists and comparisons that are under way, and the find that the next one cancels
         self._finds: dict[Any, asyncio.Task[None]] = {}
         self._current: asyncio.Task[None] | None = None
         self._shown_at = 0.0
@@ -182,9 +190,9 @@ class Editor:
         task = asyncio.create_task(self._answer(request))
         self._tasks.add(task)
         task.add_done_callback(self._tasks.discard)
-        if request.do == "find":
+        if request.do in _GIVEN_UP:
             self._finds[request.number] = task
-            if not request.given.get("beside"):
+            if request.do == "find" and not request.given.get("beside"):
                 self._current = task
 
             def end(ended: asyncio.Task[None]) -> None:
@@ -219,6 +227,9 @@ class Editor:
         told = {"root": shown_text(tree.root), "life": status.life, "version": status.version, "documents": status.documents, "bytes": status.bytes, "open": status.open}
         names = [shown_text(name) for name in sorted(self._overlays.names)]
         unwatched = {"unwatched": tree.unwatched} if tree.unwatched else {}
+        if "folder" in request.given:
+            await tree.fresh()
+            told["has_folder"] = tree.has_folder(os.fsdecode(os.path.join(tree.root, request.given["folder"].strip(b"/"))))
         told.update(left_out=left_out, watched=not tree.unwatched, overlays=names, **unwatched, **self._host.about())
         self._send({"id": request.number, **told, "done": True})
 
@@ -231,6 +242,20 @@ class Editor:
             following.leave(self)
         told = {"life": following.life, "version": following.version, "watched": not self._host.tree.unwatched}
         self._send({"id": request.number, **told, "done": True})
+
+    async def _list(self, request: Request) -> None:
+        await self._ready()
+        await self._host.tree.fresh()
+        found = await editor_files.listed(self._host.tree, request.given)
+        self._send({"id": request.number, **found, "done": True})
+
+    async def _compare(self, request: Request) -> None:
+        await self._ready()
+        tree, past = self._host.tree, self._host.past
+        # a search in no document, so that a pattern is refused as one of a find is
+        request.given["query"] = Query(request.given["pattern"], literal=request.given.get("literal", False), names=(b"$a",), header_only=True, limit=1)
+        await tree.session.find_query(request.given["query"])
+        self._send({"id": request.number, **await editor_files.compared(tree, past, request.given), "done": True})
 
     async def _open(self, request: Request) -> None:
         await self._ready()
@@ -383,6 +408,8 @@ def _error_of(fault: Exception, request: Request | None = None) -> dict[str, Any
             kind = "overlay"
         case Gone():
             kind = "gone"
+        case editor_files.NoComparison():
+            kind = "compare"
         case _:
             kind = "ended"
     return {"kind": kind, "message": str(fault) if isinstance(fault, (Error, OSError)) else repr(fault)}

@@ -85,6 +85,13 @@ def _texts(value: Any) -> list[bytes]:
     return [text_of(one) for one in value]
 
 
+def _line(value: Any) -> bytes:
+    line = text_of(value)
+    if b"\n" in line:
+        raise ValueError("a match lies within a line: write it without a line feed")
+    return line
+
+
 def _lines(value: Any) -> list[bytes]:
     lines = _texts(value)
     if any(b"\n" in line for line in lines):
@@ -116,13 +123,28 @@ _KEYS: dict[str, dict[str, Callable[[Any], Any]]] = {
         "units": _choice("bytes", "utf-16", "characters"),
         "cut": _number(16),
     },
+    "list": {
+        **{key: _texts for key in ("globs", "types", "not_types")},
+        "folder": text_of,
+        "no_hidden": _flag,
+        "after": text_of,
+        "limit": _number(1),
+    },
+    "compare": {
+        "range!": text_of,
+        "pattern!": _line,
+        **{flag: _flag for flag in ("ignore_case", "literal", "whole_words")},
+        **{key: _texts for key in ("globs", "types", "not_types")},
+        "folder": text_of,
+        "limit": _number(1),
+    },
     "cancel": {"of": _id},
     "edit": {"name!": text_of, "first": _number(0), "last": _number(0), "lines!": _lines},
     "overlay": {"name!": text_of, "text!": text_of},
     "release": {"name": text_of},
     "open": {"name!": text_of, "life": _number(1), "version": _number(0), "first": _number(1), "last": _number(1)},
     "follow": {"changes": _flag},
-    "status": {},
+    "status": {"folder": text_of},
 }
 
 
@@ -160,26 +182,30 @@ def read(line: bytes) -> Request:
     return Request(number, do, given)
 
 
-def _names_of(given: dict[str, Any]) -> tuple[tuple[bytes, ...], tuple[bytes, ...]]:
-    """The patterns of names for the folder, the globs and the types. `BadRequest` if one cannot be taken."""
-    folder = given.get("folder", b"").strip(b"/")
-    words = {
+def words_of(given: dict[str, Any]) -> dict[str, Any]:
+    """The options of the command `tgrep` for the globs and the types of a request."""
+    return {
         "all_globs": [(glob.decode("utf-8", "surrogateescape"), False) for glob in given.get("globs", [])],
         "types": [name.decode(errors="replace") for name in given.get("types", [])],
         "not_types": [name.decode(errors="replace") for name in given.get("not_types", [])],
         "no_hidden": given.get("no_hidden", False),
     }
+
+
+def filter_of(given: dict[str, Any]) -> asking.Filter:
+    """Which names a request is about: its folder, its globs and its types. `BadRequest` if one cannot be taken."""
+    folder = given.get("folder", b"").strip(b"/")
     try:
-        found = asking.filter_of(words, Piece(folder + b"/" * bool(folder), b"", False), None)
+        return asking.filter_of(words_of(given), Piece(folder + b"/" * bool(folder), b"", False), None)
     except Refused as refused:
         raise BadRequest(str(refused), "types" if "type" in str(refused) else "globs") from None
-    return found.wanted, found.unwanted
 
 
 def query_of(given: dict[str, Any]) -> Query:
     """The query that a find asks for. `BadRequest` if a glob or a type cannot be taken."""
     show, pattern = given.get("show", "lines"), given["pattern"]
-    names, not_names = _names_of(given)
+    found = filter_of(given)
+    names, not_names = found.wanted, found.unwanted
     return Query(
         pattern,
         ignore_case=given.get("ignore_case", False) or (given.get("smart_case", False) and not _CAPITAL.search(pattern)),

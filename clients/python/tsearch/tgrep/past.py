@@ -100,7 +100,7 @@ class Past:
         given, top = request["given"], places.top_of(request["root"]) or request["root"]
         store = Store(top)
         if "diff" in given:
-            before, after = await asyncio.to_thread(_ends, store, given["diff"])
+            before, after = await asyncio.to_thread(ends, store, given["diff"])
             async with self._lent(("diff", before, after), lambda: self._review(store, before, after)) as kept:
                 names = {name for one in kept.review.patch.changed for name in one[:2]}
                 pieces = [(piece, here) for piece, here, _ in _pieces(request, top, b"", names)]
@@ -209,7 +209,7 @@ def _commit(store: Store, name: str) -> str:
     return found[name]
 
 
-def _ends(store: Store, words: str) -> tuple[str, str]:
+def ends(store: Store, words: str) -> tuple[str, str]:
     """The two commits of `A..B`, or of `A...B`, which begins where B has left A. HEAD stands for what is left out."""
     found = _RANGE.fullmatch(words)
     if found is None:

@@ -263,6 +263,11 @@ class Server:
         return self._tree
 
     @property
+    def past(self) -> Past:
+        """What is kept of commits and patches."""
+        return self._past
+
+    @property
     def following(self) -> Following:
         """What is noted of its changes, once somebody wants to know."""
         self._following = self._following or Following(self._tree)
