@@ -45,10 +45,14 @@ class Warm:
         if done.returncode:
             raise Error(done.stderr.decode(errors="replace").strip())
         told = json.loads(done.stdout)
-        self.root: str = told["root"]
+        connection = socket.socket(socket.AF_UNIX)
+        connection.connect(told["socket"])
+        self._begin(told["root"], connection)
+
+    def _begin(self, root: str, connection: socket.socket) -> None:
+        self.root = root
         self.events: collections.deque[dict[str, Any]] = collections.deque()
-        self._socket = socket.socket(socket.AF_UNIX)
-        self._socket.connect(told["socket"])
+        self._socket = connection
         self._file = self._socket.makefile("rb")
         self._numbers = itertools.count(1)
         self._waiting: dict[int, collections.deque[dict[str, Any]]] = {}

@@ -37,7 +37,7 @@ def read(words):
 
 def _needs_none(given):
     """Whether no pattern is among the words."""
-    return any(given.get(key) for key in ("files", "type_list", "order", "completion", "manual", "version", "help"))
+    return any(given.get(key) for key in ("files", "type_list", "order", "mcp", "completion", "manual", "version", "help"))
 
 
 def _long(table, given, word, words, at):
@@ -127,6 +127,8 @@ def _settle(given):
         raise Refused("give one of --at, --changed and --diff")
     if given.get("run_filters") and "changed" not in given:
         raise Refused("--run-filters goes with --changed")
+    if given.get("mcp") and given["paths"]:
+        raise Refused("--mcp takes no PATH: the client says what is searched, or --root")
     if given.get("pretty"):
         given.update({"color": "always", "heading": True, "line_number": True})
     if given.get("color") == "ansi":

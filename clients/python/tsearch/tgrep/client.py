@@ -116,6 +116,10 @@ def _run(given, terminal):
         terminal.output(pages.page(given).encode())
         return 0
     paths = given.pop("paths")
+    if given.get("mcp"):
+        from .mcp import service
+
+        return service.main(given)
     if 0 in terminal.closed and STANDARD_INPUT in (*paths, *given.get("pattern_files", ())):
         raise OSError(errno.EBADF, os.strerror(errno.EBADF), "standard input")
     if "pattern_files" in given:

@@ -98,6 +98,7 @@ GROUPS = (
             (("--status",), None, "order", "status", "what the server of this tree holds"),
             (("--stop",), None, "order", "stop", "ends the server of this tree"),
             (("--socket",), None, "order", "socket", "starts the server of this tree, and shows where an editor reaches it (docs/SERVER.md)"),
+            (("--mcp",), None, "mcp", True, "serves an agent at standard input and output, by the Model Context Protocol (docs/AGENTS.md)"),
             (("--search-ms",), "N", "search_ms", "number", "gives the search up after N milliseconds"),
             (("--completion",), "SHELL", "completion", ("bash", "zsh", "fish"), "the completion for a shell, to be read by it"),
             (("--manual",), None, "manual", True, "the manual page, for man -l"),

@@ -13,7 +13,7 @@ _USES = (
     "tgrep [OPTIONS] PATTERN [PATH...]",
     "tgrep [OPTIONS] -e PATTERN ... [PATH...]",
     "tgrep [OPTIONS] --files [PATH...]",
-    "tgrep --status | --stop | --socket",
+    "tgrep --status | --stop | --socket | --mcp",
 )
 _TEXTS = (
     (

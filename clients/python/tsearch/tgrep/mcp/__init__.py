@@ -1,0 +1,1 @@
+"""`tgrep --mcp`: a server of the Model Context Protocol, by which agents search (docs/AGENTS.md)."""
