@@ -25,7 +25,7 @@ from counted import Counted
 
 TESTS = TOP / "clients/python/tests"
 # The longest first, so that no processor waits for it.
-MODULES = ["test_nothing_runs", "test_links", "test_shared", "test_cluster", "test_operators", "test_visitors", "test_access", "test_session", "test_git", "test_browser", "test_aio", "test_networks", "test_not_seen", "test_host", "test_apart", "test_web", "test_warm", "test_warm_server", "test_tgrep", "test_folder", "test_ignored", "test_paths", "test_readme", "test_review", "test_package", "test_hints", "test_core", "test_feeding", "test_bounds", "test_views", "test_comparisons"]
+MODULES = ["test_nothing_runs", "test_links", "test_shared", "test_cluster", "test_operators", "test_visitors", "test_access", "test_session", "test_git", "test_browser", "test_aio", "test_networks", "test_not_seen", "test_host", "test_apart", "test_web", "test_warm", "test_warm_server", "test_mcp", "test_tgrep", "test_folder", "test_ignored", "test_paths", "test_readme", "test_review", "test_package", "test_hints", "test_core", "test_feeding", "test_bounds", "test_views", "test_comparisons"]
 LIBRARIES = ["aiohttp", "selenium", "distributed"]
 LEAST_VERSION = (3, 11)
 SECONDS = 1800
