@@ -12,7 +12,7 @@ import subprocess
 import unittest
 from typing import Any
 
-from agents import VERSION, Agents
+from agents import VERSION, Agents, Client
 from helpers import SECONDS, SLOW, Model, found_in, lines_of, quoted, slow_documents
 from warmed import TGREP, text_of
 
@@ -64,6 +64,15 @@ class Lifecycle(Agents):
                 self.assertEqual(tool[key]["type"], "object")
                 self.assertLessEqual(set(tool[key]["required"]), set(tool[key]["properties"]))
         self.assertEqual(client.ask("tools/list", {"cursor": "x"})["error"]["code"], PARAMS)
+
+    def test_the_folder_of_the_start(self) -> None:
+        self.write(SMALL)
+        client = self.client("--root", "src")
+        client.hello()
+        self.assertEqual([file["path"] for file in client.call("list_files")["files"]], ["b.c"])
+        for words in ["--root", "none"], ["src"]:
+            done = subprocess.run([*TGREP, "--mcp", *words], cwd=self.top, stdin=subprocess.DEVNULL, capture_output=True, check=False)
+            self.assertEqual((done.returncode, done.stdout, done.stderr.count(b"\n")), (2, b"", 1))
 
     def test_no_tool_before_initialized(self) -> None:
         client = self.client()
@@ -355,42 +364,45 @@ class Running(Agents):
 class Tools(Agents):
     def test_searches_beside_a_model(self) -> None:
         source = random.Random(7)
-        model = Model(11)
         odd = {b"odd \xff\n": b"alpha \xfe\nbeta\n", "\u00e9/\u4e16.c".encode(): "alpha \u00e9\n".encode(), b"-x": b"alpha", b"empty": b"", b"%41": b"beta\r\n"}
-        documents = {**model.documents, **odd}
+        documents = {**Model(11).documents, **odd}
         self.write(documents)
         client = self.ready()
         for at in range(40):
             pattern = source.choice(Model.PATTERNS)
             flags = {flag: True for flag in ("ignore_case", "literal", "whole_words") if source.random() < 0.2}
-            given: dict[str, Any] = {"pattern": pattern, "limit": source.choice([1, 3, 10, 1_000]), **flags}
+            given: dict[str, Any] = {"limit": source.choice([1, 3, 10, 1_000]), **flags}
             under = source.choice([None, "dir 1", "dir 2"])
             searched = documents if under is None else {name: body for name, body in documents.items() if name.startswith(under.encode() + b"/")}
             given |= {} if under is None else {"paths": [under]}
-            with self.subTest(at=at, given=given):
-                kind = at % 4
-                if kind == 0:
-                    pages = client.pages("search", **given, counts=True)
-                    found = [(text_of(one["path"]), one["count"]) for page in pages for one in page["counts"]]
-                    self.assertEqual(found, found_in(searched, pattern, counts=True, **flags)[2])
-                elif kind == 1:
-                    pages = client.pages("search", **given, files_only=True)
-                    self.assertEqual([text_of(one) for page in pages for one in page["paths"]], found_in(searched, pattern, names_only=True, **flags)[2])
-                elif kind == 2:
-                    pages = client.pages("search", **given)
-                    self.assertEqual(rows_of(pages), [row[:3] + (True,) for row in found_in(searched, pattern, **flags)[2]])
-                    columns = [line["column"] for page in pages for file in page["files"] for line in file["lines"]]
-                    self.assertTrue(all(column >= 1 for column in columns))
-                else:
-                    page = client.call("search", **given, context=2)
-                    limit = given["limit"]
-                    expected = [row[:3] + (row[-1],) for row in found_in(searched, pattern, context=2, limit=limit, **flags)[2] if row]
-                    self.assertEqual(rows_of([page]), expected)
-                    whole = rows_of(client.pages("search", **given, context=2))
-                    self.assertEqual([row for row in whole if row[3]], [row[:3] + (True,) for row in found_in(searched, pattern, **flags)[2]])
-                if kind < 3:
-                    self.assertTrue(all(page["found"] <= given["limit"] for page in pages))
-        self.assertEqual([line["text"] for line in client.call("read_lines", path={"base64": base64.b64encode(b"odd \xff\n").decode()})["lines"]][1:], ["beta"])
+            with self.subTest(at=at, pattern=pattern, given=given):
+                (self.counts, self.paths, self.lines, self.context)[at % 4](client, pattern, given, flags, searched)
+        path = {"base64": base64.b64encode(b"odd \xff\n").decode()}
+        self.assertEqual([line["text"] for line in client.call("read_lines", path=path)["lines"]][1:], ["beta"])
+
+    def counts(self, client: Client, pattern: str, given: dict, flags: dict, searched: dict[bytes, bytes]) -> None:
+        pages = client.pages("search", pattern=pattern, counts=True, **given)
+        self.assertTrue(all(page["found"] == len(page["counts"]) <= given["limit"] for page in pages))
+        found = [(text_of(one["path"]), one["count"]) for page in pages for one in page["counts"]]
+        self.assertEqual(found, found_in(searched, pattern, counts=True, **flags)[2])
+
+    def paths(self, client: Client, pattern: str, given: dict, flags: dict, searched: dict[bytes, bytes]) -> None:
+        pages = client.pages("search", pattern=pattern, files_only=True, **given)
+        self.assertTrue(all(page["found"] == len(page["paths"]) <= given["limit"] for page in pages))
+        self.assertEqual([text_of(one) for page in pages for one in page["paths"]], found_in(searched, pattern, names_only=True, **flags)[2])
+
+    def lines(self, client: Client, pattern: str, given: dict, flags: dict, searched: dict[bytes, bytes]) -> None:
+        pages = client.pages("search", pattern=pattern, **given)
+        self.assertTrue(all(page["found"] == len(rows_of([page])) <= given["limit"] for page in pages))
+        self.assertEqual(rows_of(pages), [row[:3] + (True,) for row in found_in(searched, pattern, **flags)[2]])
+        self.assertTrue(all(line["column"] >= 1 for page in pages for file in page["files"] for line in file["lines"]))
+
+    def context(self, client: Client, pattern: str, given: dict, flags: dict, searched: dict[bytes, bytes]) -> None:
+        first = client.call("search", pattern=pattern, context=2, **given)
+        rows = found_in(searched, pattern, context=2, limit=given["limit"], **flags)[2]
+        self.assertEqual(rows_of([first]), [row[:3] + (row[-1],) for row in rows if row])
+        every = rows_of(client.pages("search", pattern=pattern, context=2, **given))
+        self.assertEqual([row for row in every if row[3]], [row[:3] + (True,) for row in found_in(searched, pattern, **flags)[2]])
 
     def test_lists_and_lines_beside_a_model(self) -> None:
         model = Model(3)

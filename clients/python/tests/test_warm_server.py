@@ -12,10 +12,10 @@ import socket
 import subprocess
 import unittest
 
-from helpers import SECONDS, SLOW, TOP, children_of, slow_documents, until
+from helpers import SECONDS, SLOW, TOP, children_of, quoted, slow_documents, until
 from tsearch.errors import Error
 from tsearch.warm import WarmRefused
-from warmed import TGREP, Place, shown_by
+from warmed import TGREP, Place, shown_by, text_of
 
 NODE = TOP / "clients/node/tgrep.js"
 
@@ -52,6 +52,33 @@ class Cancels(Place):
         until(lambda: other.ask("status")["open"])
         warm.close()
         until(lambda: other.ask("status")["open"] == 0)
+
+
+class Files(Place):
+    def test_lists(self) -> None:
+        documents = {b"a b": b"x", b"src/c.c": b"foo\n", b"src/d.py": b"", b"bin": b"a\0", b"odd\xff": b"y\n", b".ignore": b"made/\n"}
+        self.write({**documents, b"made/x": b"x\n"})
+        warm = self.warm()
+        files = warm.ask("list")["files"]
+        self.assertEqual([(text_of(one["name"]), one["bytes"]) for one in files], [(name, len(documents[name])) for name in sorted(documents, key=quoted)])
+        self.assertEqual([one["left_out"] for one in files if "left_out" in one], ["binary"])
+        for given, names, left in (
+            ({"after": "a b", "limit": 2}, ["bin", {"base64": "b2Rk/w=="}], 2), ({"folder": "src", "globs": ["*.c"]}, ["src/c.c"], 0),
+            ({"types": ["py"]}, ["src/d.py"], 0), ({"after": {"base64": "b2Rk/w=="}}, ["src/c.c", "src/d.py"], 0), ({"after": "z"}, [], 0),
+        ):  # fmt: skip
+            told = warm.ask("list", **given)
+            self.assertEqual(([one["name"] for one in told["files"]], told["left"], told["more"]), (names, left, left > 0))
+        self.write({b"new": b"z\n"})
+        self.assertIn("new", [one["name"] for one in warm.ask("list")["files"]])
+        for given, kind in (
+            ({"do": "list", "folder": "made"}, "gone"), ({"do": "list", "limit": 0}, "request"), ({"do": "list", "types": ["none"]}, "request"),
+            ({"do": "compare", "range": "A..B", "pattern": "x"}, "compare"), ({"do": "compare", "range": "A..B", "pattern": "(x"}, "pattern"),
+            ({"do": "compare", "range": "A..B", "pattern": "x\ny"}, "request"),
+        ):  # fmt: skip
+            with self.assertRaises(WarmRefused) as refused:
+                warm.ask(**given)
+            self.assertEqual(refused.exception.kind, kind, given)
+        self.assertEqual([warm.ask("status", folder=name)["has_folder"] for name in ("src", "made", "")], [True, False, True])
 
 
 class Faults(Place):

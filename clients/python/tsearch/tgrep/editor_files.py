@@ -22,11 +22,11 @@ class NoComparison(Error):
 
 
 async def listed(tree: Tree, given: dict[str, Any]) -> dict[str, Any]:
-    """The files of a folder, in the order of a find: each with its length and, if its text is not searched, the reason. `Gone` if the
-    tree has no such folder."""
+    """The files of a folder, in the order of a find: each with its length and, if its text is not searched, the reason. `Gone` if a
+    rule names the folder."""
     folder = given.get("folder", b"").strip(b"/")
     if folder and not tree.has_folder(os.fsdecode(os.path.join(tree.root, folder))):
-        raise Gone("the tree has no such folder")
+        raise Gone("a rule names this folder, so it is not in the tree")
     found, left_out = editor_requests.filter_of(given), dict(tree.left_out)
     names = {*tree.files.held, *left_out}
     after = quote(given.get("after", b""))
@@ -43,8 +43,7 @@ async def listed(tree: Tree, given: dict[str, Any]) -> dict[str, Any]:
 async def compared(tree: Tree, past: Past, given: dict[str, Any]) -> dict[str, Any]:
     """The lines with a match that a patch removes, adds and leaves, and the two commits. `NoComparison` if there are none."""
     root = os.fsdecode(tree.root)
-    store = Store(places.top_of(root) or root)
-    before, after = await asyncio.to_thread(_ends, store, given["range"].decode("utf-8", "surrogateescape"))
+    before, after = await asyncio.to_thread(_ends, places.top_of(root) or root, given["range"].decode("utf-8", "surrogateescape"))
     limit = given.get("limit")
     words = {
         **editor_requests.words_of(given),
@@ -71,9 +70,9 @@ async def compared(tree: Tree, past: Past, given: dict[str, Any]) -> dict[str, A
     return {"rows": rows[:limit], "count": len(rows[:limit]), "more": more, "before": before, "after": after, **told}
 
 
-def _ends(store: Store, words: str) -> tuple[str, str]:
+def _ends(top: str, words: str) -> tuple[str, str]:
     try:
-        return ends(store, words)
+        return ends(Store(top), words)
     except Error as error:
         raise NoComparison(str(error)) from None
 

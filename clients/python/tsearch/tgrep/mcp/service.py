@@ -12,6 +12,7 @@ from collections.abc import Callable
 from typing import Any, BinaryIO
 
 from .. import VERSION
+from ..arguments import Refused
 from . import tools, wire
 from .answers import Answer
 from .asked import Asked, GivenUp
@@ -30,14 +31,17 @@ _OFTEN = 0.1
 
 
 def main(given: dict[str, Any]) -> int:
-    """Serves a client at standard input and output, to the end of its input. The status is 0."""
+    """Serves a client at standard input and output, to the end of its input. The status is 0. `Refused` if there is no folder to start in."""
+    start = os.path.abspath(given.get("root", os.getcwd()))
+    if not os.path.isdir(start):
+        raise Refused(f"--root {given['root']}: there is no such folder")
     # who closes a pipe or a socket is seen where it is written to
     signal.signal(signal.SIGPIPE, signal.SIG_IGN)
     # nothing else that writes to standard output comes between the messages
     output = os.dup(1)
     os.dup2(2, 1)
     with open(0, "rb", closefd=False) as file:
-        Service(Writer(output), os.path.abspath(given.get("root", os.getcwd()))).run(file)
+        Service(Writer(output), start).run(file)
     return 0
 
 
