@@ -7,6 +7,7 @@ import asyncio
 import collections
 import contextlib
 import dataclasses
+import functools
 import itertools
 import math
 import os
@@ -25,6 +26,7 @@ from .hints import hint
 from .json_form import JsonLines
 from .text import Text, UnreadableText
 from .tree import Documents, find
+from .typed_parts import Untaken
 
 _SUMMED = 10
 # In bytes: so much of rows that wait for others is in memory, and so much of a file is read at a time.
@@ -87,8 +89,6 @@ class Call:
         self._show = self.given.get("show", "lines")
         self._is_found = self._has_errors = False
         self._json: JsonLines | None = None
-        self._query = asking.query_of(self.given)
-        self._empty = forms.Empty(self._query)
         # of one part: how many lines or matches each path has
         self._counts: dict[bytes, int] = {}
         self._kept = forms.Around(0, 0, None)
@@ -99,6 +99,15 @@ class Call:
         self._searched_before = self._bytes_before = 0
         self._before = ast.literal_eval(request["carried"] or "{}")
         self._take_over()
+
+    @functools.cached_property
+    def _query(self) -> Query:
+        """The query for all documents. `PatternRefused` if a pattern cannot be translated."""
+        return asking.query_of(self.given)
+
+    @functools.cached_property
+    def _empty(self) -> forms.Empty:
+        return forms.Empty(self._query)
 
     def _take_over(self) -> None:
         """Goes on where the answer for another tree has ended."""
@@ -492,10 +501,9 @@ class Call:
 
     def _complain(self, refused: PatternRefused) -> None:
         """Says why a pattern is refused, shows where, and what to write instead."""
-        for pattern in asking.patterns_of(self.given):
-            if not refused.number and refused.pattern != pattern and len(asking.patterns_of(self.given)) == 1:
-                refused = PatternRefused(refused.reason, refused.offset, 0, pattern)
-        instead = hint(refused)
+        if not isinstance(refused, Untaken) and not refused.number:
+            refused = asking.as_typed(self.given, refused)
+        instead = refused.instead if isinstance(refused, Untaken) else hint(refused)
         of = "pattern of paths: " if refused.number else ""
         self._say(f"{of}{refused.reason} at {refused.offset}{': ' + instead if instead else ''}")
         if len(refused.pattern) <= 200:

@@ -9,9 +9,10 @@ import re
 from collections.abc import Callable
 from typing import Any
 
+from ..errors import PatternRefused
 from ..names import quote, to_bytes
 from ..query import MAX_PATTERN, Query, escape
-from . import ere, globs
+from . import ere, globs, typed
 from .arguments import Refused
 from .types import TYPES
 
@@ -44,13 +45,22 @@ class Piece:
 
 
 def patterns_of(given: dict[str, Any]) -> list[bytes]:
-    """The patterns. One with a line feed is several, as for grep."""
+    """The patterns as they were typed. One with a line feed is several, as for grep."""
     return [part for pattern in given.get("patterns", []) for part in to_bytes(pattern).split(b"\n")]
 
 
+def translation_of(given: dict[str, Any]) -> typed.Typed:
+    """The patterns as the program takes them. `typed.Untaken` if one cannot be translated."""
+    patterns = tuple(patterns_of(given))
+    if given.get("literal") or given.get("posix"):
+        return typed.as_they_are(patterns)
+    return typed.translated(patterns, words=bool(given.get("words")), lines=bool(given.get("lines")))
+
+
 def query_of(given: dict[str, Any]) -> Query:
-    """The query for all documents, without a view."""
-    patterns = patterns_of(given)
+    """The query for all documents, without a view. `typed.Untaken` if a pattern cannot be translated."""
+    found = translation_of(given)
+    patterns = found.patterns
     is_literal = bool(given.get("literal"))
     if not patterns:
         pattern, is_literal = _NOTHING, False
@@ -61,21 +71,30 @@ def query_of(given: dict[str, Any]) -> Query:
         pattern = b"|".join(map(escape, patterns) if is_literal else patterns)
         is_literal = False
     case = given.get("case")
-    ignores_case = case == "ignore" or (case == "smart" and not any(map(_CAPITAL.search, patterns)))
+    ignores_case = found.ignores_case or case == "ignore" or (case == "smart" and not any(map(_CAPITAL.search, patterns)))
     return Query(
         pattern,
         ignore_case=ignores_case,
         literal=is_literal,
-        whole_words=bool(given.get("words")),
+        whole_words=bool(given.get("words")) or found.whole_words,
         whole_lines=bool(given.get("lines")),
         invert=bool(given.get("invert")),
     )
 
 
-def single_patterns(given: dict[str, Any]) -> list[bytes]:
+def as_typed(given: dict[str, Any], refused: PatternRefused) -> PatternRefused:
+    """A refusal of a translated pattern, as one of what was typed."""
+    patterns, found = patterns_of(given), translation_of(given)
+    for pattern, out, offsets in zip(patterns, found.patterns, found.offsets):
+        if out == refused.pattern or len(patterns) == 1:
+            return PatternRefused(refused.reason, offsets[min(refused.offset, len(out))], 0, pattern)
+    return refused
+
+
+def single_patterns(given: dict[str, Any]) -> tuple[bytes, ...]:
     """The patterns that are joined to one, and so have to be patterns by themselves."""
-    patterns = patterns_of(given)
-    return [] if given.get("literal") or len(patterns) < 2 else patterns
+    patterns = translation_of(given).patterns
+    return () if given.get("literal") or len(patterns) < 2 else patterns
 
 
 @dataclasses.dataclass(frozen=True)

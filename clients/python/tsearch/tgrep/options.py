@@ -21,6 +21,7 @@ GROUPS = (
             (("-S", "--smart-case"), None, "case", "smart", "as -i, unless a pattern has a capital letter"),
             (("--case-sensitive", "--no-ignore-case"), None, "case", "as it is", "letters match their own case alone, as without an option"),
             (("-F", "--fixed-strings"), None, "literal", True, "PATTERN is a text, and no pattern"),
+            (("--posix",), None, "posix", True, "PATTERN is taken as it is, and \\d \\w \\s \\b (?: (?i) *? and the like are not translated to what POSIX has"),
             (("-w", "--word-regexp"), None, "words", True, "only matches with no letter, digit or _ right before or after them"),
             (("-x", "--line-regexp"), None, "lines", True, "only matches that are whole lines"),
             (("-v", "--invert-match"), None, "invert", True, "the lines without a match"),
@@ -137,7 +138,7 @@ GROUPS = (
 )
 
 # What is refused, and what to write instead.
-_ERE = "patterns are extended regular expressions: tgrep -E, and docs/PATTERNS.md has their table beside Perl's; else rg -P or grep -P"
+_ERE = "\\d \\w \\s \\b (?: (?i) *? are read without it, and docs/PATTERNS.md lists the rest; for look-around and back-references rg -P or grep -P"
 _LINES = "a match lies within a line; use rg -U"
 REFUSED = {
     "-P": _ERE,
