@@ -76,6 +76,7 @@ class Names(unittest.TestCase):
             done = subprocess.run(words, input="\n".join(names), text=True, capture_output=True, check=False, env={**os.environ, "LC_ALL": "C"})
             with self.subTest(pattern=pattern):
                 self.assertEqual(found, done.stdout.splitlines())
+        self.assertEqual([ere.names(b"$(a?)^").has(name) for name in (b"", b"a", b"ba")], [True, False, False])
 
 
 class Hostile(unittest.TestCase):

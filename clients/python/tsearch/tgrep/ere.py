@@ -253,13 +253,16 @@ class Names:
 
     def _state(self, steps: set[int], is_begin: bool = False) -> _State:
         closed = frozenset(self._closed(steps, is_begin))
-        state = self._states.get(closed)
+        # at the begin of a name a `^` behind a `$` counts too
+        state = None if is_begin else self._states.get(closed)
         if state is None:
             if len(self._states) >= _MOST_STATES:
                 self._states.clear()
                 self._begin.next.clear()
             at_end = self._closed(set(closed), is_begin, is_end=True)
-            state = self._states[closed] = _State(closed, _FOUND in closed, _FOUND in at_end)
+            state = _State(closed, _FOUND in closed, _FOUND in at_end)
+            if not is_begin:
+                self._states[closed] = state
         return state
 
     def _after(self, state: _State, byte: int) -> _State:

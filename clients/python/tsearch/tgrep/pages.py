@@ -36,10 +36,16 @@ _TEXTS = (
         "named as a PATH. If nothing is found and a file could not be searched, the status is 2.",
     ),
     (
+        "Patterns",
+        "What Perl, Python and rg share is translated, unless there is --posix or -F: \\d \\w \\s \\h and their capitals, also in brackets, \\b \\< \\>, "
+        "(?:...), a leading (?i), *? +? ??, \\t and \\x41. The lines are the same; with \\b a match may be a byte or the rest of a word longer. What has "
+        "no such form is refused, with the place and what to write: look-around, back-references, possessive repeats and \\p{..}. docs/PATTERNS.md has the table.",
+    ),
+    (
         "How it differs from grep and rg",
         "Lines have their numbers and paths unless -N and -h say otherwise; a single file has no path. Hidden files are searched, as by grep. -h, "
         "-L, -r, -s, -E and -I mean what they mean for grep, and all other letters what they mean for both or for rg. -c and -l show no file "
-        "without a line. At a terminal a line of over 1,000 bytes is shown around its matches, unless -M says otherwise. A pattern is a POSIX extended regular expression over bytes: docs/PATTERNS.md has a table for who comes from Perl or rg.",
+        "without a line. At a terminal a line of over 1,000 bytes is shown around its matches, unless -M says otherwise. A pattern is a POSIX extended regular expression over bytes.",
     ),
     ("Status", "0 if a line was found, 1 if none was, and 2 after an error, such as a file that may not be read; with -q 0 once a line is found."),
     (

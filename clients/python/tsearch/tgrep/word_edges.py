@@ -136,7 +136,8 @@ def _kinds(part: Part, is_left: bool) -> tuple[set[str], bool]:
     """The kinds that the nearest byte of a part may have, and whether the part may be empty."""
     may_be_empty = any(repeat in b"*?" or repeat[1:].lstrip(b"0")[:1] in (b",", b"}") for repeat, _ in part.repeats if repeat != b"+")
     if part.kind == "edge":
-        return {_IS_OTHER}, False
+        # a `$` on the left, or a `^` on the right, says something of the other side
+        return {_IS_OTHER if (part.out == b"^") == is_left else _IS_EITHER}, False
     if part.kind == "made":
         return {part.ends[is_left]}, may_be_empty
     if part.alternatives is None:
@@ -208,28 +209,28 @@ def _narrow_before(parts: list[Part], at: int, behind: str, left: set[str]) -> b
 def _narrowed(part: Part, before: str, behind: str, *, is_begin: bool, is_end: bool) -> Optional[Part]:
     """A set between bytes of these kinds, with a `\\b` at its begin, at its end, or at both; None if there is no form for it."""
     repeat = part.repeats[0][0] if part.repeats else b""
-    if part.kind != "set" or len(part.repeats) > 1 or repeat not in (b"", b"*", b"+"):
+    if part.kind != "set" or len(part.repeats) > 1 or repeat not in (b"", b"*", b"+", b"?"):
         return None
-    if (is_end or repeat == b"*") and (before not in _OPPOSITE and repeat == b"*" or behind not in _OPPOSITE):
+    may_be_empty = repeat in (b"*", b"?")
+    if (may_be_empty and before not in _OPPOSITE) or ((may_be_empty or is_end) and behind not in _OPPOSITE):
         return None
     first, last = _OPPOSITE.get(before, ""), _OPPOSITE.get(behind, "")
     begin, end = (_within(part.out, kind) if is_wanted else b"" for kind, is_wanted in ((first, is_begin), (last, is_end)))
     if begin is None or end is None:
         return None
-    out, star = b"", part.out + b"*"
-    if repeat == b"":
-        if is_begin and is_end and first != last:
+    is_both, star = is_begin and is_end, part.out + b"*"
+    if repeat in (b"", b"?"):
+        if is_both and first != last:
             return None
         out = begin or end
-    elif part.out in (begin, end) and (begin == end or not (is_begin and is_end)):
+    elif part.out in (begin, end) and (begin == end or not is_both):
         out = part.out + b"+"
-    elif is_begin and is_end and first == last:
+    elif is_both and first == last:
         out = begin + b"(" + star + end + b")?"
     else:
         out = begin + star + end
-    if repeat == b"*" and before != behind:
+    if may_be_empty and before != behind:
         out = b"(" + out + b")?"
-        return Part("made", part.at, out, repeats=[], ends=_ends(part, first, last, is_begin, is_end))
     return Part("made", part.at, out, ends=_ends(part, first, last, is_begin, is_end))
 
 
