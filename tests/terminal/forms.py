@@ -42,6 +42,10 @@ SAME = [
     ["-n", "--no-heading", "--context-separator=ab", "-A1", "foo", "src"],
     ["-n", "--no-heading", "-M", "9", "foo", "src"],
     ["-n", "--no-heading", "-M", "8", "foo", "src"],
+    ["-n", "--no-heading", "--trim", "-C1", "foo", "x.py", "src", "../plain/sub"],
+    ["-n", "--no-heading", "--trim", "--color=always", "-A1", "foo|  +re", "a.c"],
+    ["-n", "--no-heading", "--trim", "--color=always", "-o", "--column", " +r|oo", "a.c", "src"],
+    ["--trim", "--vimgrep", "--color=always", " +r|oo", "a.c"],
     "-n --no-heading --block-buffered --no-line-buffered --one-file-system --ignore --no-ignore-files --no-ignore-exclude foo src".split(),
     "-n --no-heading --regex-size-limit 1M --dfa-size-limit=1M --auto-hybrid-regex --no-auto-hybrid-regex --max-columns-preview foo src".split(),
     # what plugins of editors write: Telescope, deadgrep, consult, rg.el, fzf.vim, ack.vim
@@ -85,7 +89,6 @@ REFUSED = {
     ("-C", "1001", "x"): "at most 1000",
     (): "give a pattern",
     ("--limit", "0", "x"): "at least 1",
-    ("--max-depth", "0", "x"): "--max-depth is at least 1",
     ("--color", "x"): "write --color=auto",
     ("--max-filesize", "1X", "x"): "needs a size such as",
     ("--name", "x" * 1_100, "x"): "--name and --not-name take at most",

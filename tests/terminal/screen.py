@@ -73,6 +73,13 @@ def colours_and_control_bytes(place, screen):
         raise Wrong(repr(text))
     if "^[[2J" not in screen.shown():
         raise Wrong(repr(screen.shown()))
+    screen.type("export NO_COLOR=1")
+    if screen.run("foo") != 0 or "\x1b[31m" in screen.shown("-e") or "a:1:say foo" not in screen.shown():
+        raise Wrong(repr(screen.shown("-e")))
+    screen.run("--color=always", "foo")
+    if not re.search(r"\x1b\[[0-9;]*31m", screen.shown("-e")):
+        raise Wrong(repr(screen.shown("-e")))
+    screen.type("unset NO_COLOR")
     if screen.run("--color=never", "foo") != 0 or "\x1b[31m" in screen.shown("-e") or "a:1:say foo ^[[2J foo" not in screen.shown():
         raise Wrong(repr(screen.shown("-e")))
 

@@ -216,6 +216,14 @@ class Unchanged(unittest.TestCase):
             self.assertEqual((found.patterns, found.ignores_case, found.whole_words), ((pattern.encode(),), False, False))
             self.assertEqual(found.offsets[0], tuple(range(len(pattern.encode()) + 1)))
 
+    def test_what_is_too_long(self) -> None:
+        for pattern in b"(?:a)" * 200_000, b"[[:" * 340, b"(" * 64 + b"\\ba|" * 150, b"\\b.*" * 200, b"[a\\d" * 200:
+            try:
+                typed.translated((pattern,))
+            except Untaken:
+                self.assertLessEqual(len(pattern), 1_024)
+        self.assertEqual(typed.translated((rb"\d",) * 400).patterns, (rb"\d",) * 400)
+
     def test_any_bytes(self) -> None:
         """Whatever is typed is translated or refused, at a place in it; what is made is not changed again."""
         source = random.Random(4)

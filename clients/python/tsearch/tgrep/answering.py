@@ -398,7 +398,7 @@ class Call:
         return (
             not self._colours.is_on
             and not forms.shortens(self.given, self._is_terminal)
-            and not any(self.given.get(key) for key in ("heading", "only_matching", "vimgrep", "max_columns", "stats", "max_count"))
+            and not any(self.given.get(key) for key in ("heading", "only_matching", "vimgrep", "max_columns", "stats", "max_count", "trim"))
             and self._show == "lines"
             and len({self.given.get(key, self.given.get("context", 0)) for key in ("before", "after")}) == 1
         )

@@ -135,8 +135,6 @@ def _settle(given):
         given["color"] = "always"
     if given.get("vimgrep"):
         given.update({"heading": False, "column": True})
-    if given.get("max_depth") == 0:
-        raise Refused("--max-depth is at least 1, which is the files in a folder")
     if given.get("limit") == 0:
         raise Refused("--limit is at least 1; -q shows nothing, and its status tells")
     for option, key in ("-A", "after"), ("-B", "before"), ("-C", "context"):

@@ -145,7 +145,7 @@ def filter_of(given: dict[str, Any], piece: Piece, here: bytes | None) -> Filter
     if given.get("no_hidden"):
         unwanted.append(globs.hidden(piece.under))
     if "max_depth" in given:
-        wanted.append(globs.at_depth(piece.under, given["max_depth"]))
+        wanted.append(globs.at_depth(piece.under, given["max_depth"]) if given["max_depth"] else _NOTHING)
     chosen, left_out = _of_globs(given)
     if chosen:
         wanted.append(globs.files(places, chosen))

@@ -124,6 +124,8 @@ def _run(given, terminal):
         raise OSError(errno.EBADF, os.strerror(errno.EBADF), "standard input")
     if "pattern_files" in given:
         _read_patterns(given)
+    if os.environ.get("NO_COLOR") and given.get("color", "auto") == "auto":
+        given["color"] = "never"
     is_past = any(key in given for key in PAST)
     if not paths and not is_past and not given.get("recursive") and not given.get("files") and not given.get("order") and _is_readable():
         paths = [STANDARD_INPUT]

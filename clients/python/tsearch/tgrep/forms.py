@@ -302,6 +302,7 @@ class Lines:
         self._only = bool(given.get("only_matching"))
         self._shortens = shortens(given, is_terminal)
         self._most = given.get("max_columns", LONGEST if is_terminal else 0)
+        self._trims = bool(given.get("trim"))
         self._null = bool(given.get("null"))
         self._colours = colours
         self._show: Callable[[bytes], bytes] = shown_controls if is_terminal else bytes
@@ -351,6 +352,8 @@ class Lines:
             text, spans = text[only[0] : only[1]], ((0, only[1] - only[0]),)
         elif self._most and len(text) + 1 > self._most and not self._shortens:
             return b"[Omitted long %s line]" % (b"matching" if row.is_found else b"context")
+        if self._trims:
+            text, spans = _trimmed(text, spans)
         if is_repeated or self._shortens and self._most:
             parts = shortened(text, spans, self._most or LONGEST)
         elif self._colours.is_on and spans:
@@ -358,6 +361,13 @@ class Lines:
         else:
             return self._show(text)
         return b"".join(self._colours.paint(self._show(part), "match") if at % 2 else self._show(part) for at, part in enumerate(parts))
+
+
+def _trimmed(text: bytes, spans: Spans) -> tuple[bytes, Spans]:
+    """A text without the white space at its begin, and the spans in what is left."""
+    trimmed = text.lstrip()
+    gone = len(text) - len(trimmed)
+    return trimmed, tuple((max(begin - gone, 0), end - gone) for begin, end in spans if end > gone)
 
 
 def shortens(given: dict[str, Any], is_terminal: bool) -> bool:

@@ -50,8 +50,8 @@ _TEXTS = (
     ("Status", "0 if a line was found, 1 if none was, and 2 after an error, such as a file that may not be read; with -q 0 once a line is found."),
     (
         "Environment",
-        "TSEARCH names the program; TGREP_IDLE is how many seconds a server stays without a call, and TGREP_LOOK how many it waits between looks through its folder. NO_COLOR is not looked at: colours are shown at a "
-        "terminal alone, unless --color says otherwise.",
+        "TSEARCH names the program; TGREP_IDLE is how many seconds a server stays without a call, and TGREP_LOOK how many it waits between looks through its folder. Colours are shown at a "
+        "terminal alone, and not with a NO_COLOR that is not empty, unless --color or -p says otherwise.",
     ),
 )
 _WIDTH = 100

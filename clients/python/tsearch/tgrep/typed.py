@@ -10,6 +10,7 @@ import re
 from dataclasses import dataclass
 from typing import Optional
 
+from ..query import MAX_PATTERN
 from . import typed_brackets, word_edges
 from .typed_parts import FOLLOW, SHORT, Alternatives, Part, Untaken, written
 
@@ -50,10 +51,13 @@ def as_they_are(patterns: tuple[bytes, ...]) -> Typed:
 
 @functools.lru_cache(64)
 def translated(patterns: tuple[bytes, ...], *, words: bool = False, lines: bool = False) -> Typed:
-    """The translation of the patterns of one call. `Untaken` if one has what there is no such expression for.
+    """The translation of the patterns of one call. `Untaken` if one has what there is no such expression for. Where they are too long
+    together, the program refuses them as they are.
 
     words, lines: whether -w or -x is given.
     """
+    if sum(map(len, patterns)) + len(patterns) > MAX_PATTERN + 1:
+        return as_they_are(patterns)
     readers = [_Reader(pattern) for pattern in patterns]
     ignores_case = [reader.ignores_case for reader in readers]
     if any(ignores_case) and not all(ignores_case):
