@@ -24,6 +24,7 @@ from .arguments import Refused
 from .asking import Filter, Piece
 from .hints import hint
 from .json_form import JsonLines
+from .offsets import Offsets
 from .text import Text, UnreadableText
 from .tree import Documents, find
 from .typed_parts import Untaken
@@ -89,6 +90,7 @@ class Call:
         self._show = self.given.get("show", "lines")
         self._is_found = self._has_errors = False
         self._json: JsonLines | None = None
+        self._offsets: Offsets | None = None
         # of one part: how many lines or matches each path has
         self._counts: dict[bytes, int] = {}
         self._kept = forms.Around(0, 0, None)
@@ -145,11 +147,14 @@ class Call:
             await self._check_patterns(parts[0].documents)
         for part in parts:
             part.filter = asking.filter_of(self.given, part.piece, part.here)
-        if self._show == "json":
+        if self._show == "json" or self.given.get("byte_offset"):
+            self._offsets = Offsets(self._body_of(parts))
+        if self._show == "json" and self._offsets:
             before = self._before["call"][4] if self._before else (0, 0)
-            self._json = JsonLines(self._body_of(parts), self._totals, self._empty, self._began, before)
+            self._json = JsonLines(self._offsets, self._totals, self._empty, self._began, before)
+        has_context = self._around is not None
         lines = forms.Lines(
-            self.given, self._has_names, self._is_terminal, self._colours, self._empty, self._around is not None, self._has_shown
+            self.given, self._has_names, self._is_terminal, self._colours, self._empty, has_context, self._has_shown, self._offsets
         )
         for part in parts:
             if not self._has_enough:
@@ -172,8 +177,8 @@ class Call:
         after, before = (self.given.get(key, self.given.get("context", 0)) for key in ("after", "before"))
         self._kept = forms.Around(before, after, self.given.get("max_count"))
         if part.text is None:
-            if self._json:
-                self._json.look_at(part.piece.shown, None)
+            if self._offsets:
+                self._offsets.look_at(part.piece.shown, None)
             await self._search_piece(part, lines)
         elif self.given.get("files"):
             await self._search_piece(part, lines)
@@ -187,8 +192,8 @@ class Call:
             async with contextlib.aclosing(text.windows(self._around or 0)) as windows:
                 async for window in windows:
                     piece = dataclasses.replace(part.piece, line=window.line, first=window.first, last=window.last)
-                    if self._json:
-                        self._json.look_at(piece.shown, window[:3])
+                    if self._offsets:
+                        self._offsets.look_at(piece.shown, window[:3])
                     await self._search_piece(dataclasses.replace(part, piece=piece), lines)
                     if self._has_enough or self._has_all_of_text(window.last):
                         break
@@ -398,7 +403,7 @@ class Call:
         return (
             not self._colours.is_on
             and not forms.shortens(self.given, self._is_terminal)
-            and not any(self.given.get(key) for key in ("heading", "only_matching", "vimgrep", "max_columns", "stats", "max_count", "trim"))
+            and not any(self.given.get(key) for key in ("heading", "only_matching", "vimgrep", "max_columns", "stats", "max_count", "trim", "byte_offset"))
             and self._show == "lines"
             and len({self.given.get(key, self.given.get("context", 0)) for key in ("before", "after")}) == 1
         )

@@ -17,6 +17,7 @@ from ..query import Query
 from ..shortening import LONGEST, shortened
 from . import ere
 from .asking import Piece
+from .offsets import Offsets
 
 _QUOTED_NAME = re.compile(rb"^[^\0\n%]*%[^\0\n]*(?=\0)", re.MULTILINE)
 _NUMBERED = re.compile(rb"^([^\0\n]*)\0([0-9]+)([:-])", re.MULTILINE)
@@ -291,9 +292,18 @@ class Lines:
     """Writes rows as lines: with the path in each or above them, in colours, whole, or each match alone."""
 
     def __init__(
-        self, given: dict[str, Any], has_names: bool, is_terminal: bool, colours: Colours, empty: Empty, has_context: bool, has_shown: bool
+        self,
+        given: dict[str, Any],
+        has_names: bool,
+        is_terminal: bool,
+        colours: Colours,
+        empty: Empty,
+        has_context: bool,
+        has_shown: bool,
+        offsets: Offsets | None = None,
     ) -> None:
         self._empty = empty
+        self._offsets = offsets
         self._heading = bool(given.get("heading")) and has_names
         self._has_names = has_names and not self._heading
         self._has_numbers = given.get("line_number", True)
@@ -318,6 +328,8 @@ class Lines:
             parts.append(b"\n" * (self._last is not None) + self._path(row.name) + (b"\0" if self._null else b"\n"))
         elif self._has_context and self._last and self._last != (row.name, row.number - 1):
             parts.append(self._separator + b"\n")
+        if self._offsets and (self._last is None or self._last[0] != row.name):
+            self._offsets.begin(row.name)
         self._last = (row.name, row.number)
         return b"".join([*parts, *(self._matches(row) if row.is_found and (self._only or self._each) else [self._line(row, row.column, None)])])
 
@@ -343,6 +355,9 @@ class Lines:
             if column is None:
                 column = self._empty.column(row.text, row.spans) if row.spans is not None else 1
             parts.append(self._colours.paint(b"%d" % column, "column") + separator)
+        if self._offsets:
+            at = self._offsets.before + self._offsets.place(row.number) + (only[0] if only and self._only else 0)
+            parts.append(self._colours.paint(b"%d" % at, "column") + separator)
         parts.append(self._text(row, only if self._only else None, is_repeated))
         return b"".join(parts) + b"\n"
 

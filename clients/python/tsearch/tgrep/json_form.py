@@ -5,28 +5,21 @@ from __future__ import annotations
 import base64
 import json
 import time
-from collections.abc import Callable
 from typing import Any
 
 from .forms import Empty, Row, Totals
+from .offsets import Offsets
 
 
 class JsonLines:
-    """Writes the messages begin, match, context and end for each file, and a summary.
+    """Writes the messages begin, match, context and end for each file, and a summary."""
 
-    body_of: gives the bytes of a file, by its path as it is shown: the offset of a line is counted in it.
-    """
-
-    def __init__(
-        self, body_of: Callable[[bytes], bytes], totals: Totals, empty: Empty, began: float, before: tuple[int, int] = (0, 0)
-    ) -> None:
-        self._body_of = body_of
+    def __init__(self, offsets: Offsets, totals: Totals, empty: Empty, began: float, before: tuple[int, int] = (0, 0)) -> None:
+        self._offsets = offsets
         self._totals = totals
         self._empty = empty
         self._began = began
         self._name: bytes | None = None
-        self._body, self._line, self._offset, self._before = b"", 1, 0, 0
-        self._window: tuple[bytes, int, int] | None = None
         self._lines = self._matches = self._written = 0
         self._all_written, self._all_searched = before
 
@@ -62,45 +55,34 @@ class JsonLines:
         }
         return last + _message("summary", {"elapsed_total": elapsed, "stats": totals})
 
-    def look_at(self, name: bytes, window: tuple[bytes, int, int] | None) -> None:
-        """Counts offsets in a block of a text, which has so many lines and bytes before it; None for whole files."""
-        self._window = window
-        if window and self._name == name:
-            self._look_at(window)
-
-    def _look_at(self, window: tuple[bytes, int, int]) -> None:
-        self._body, line, self._before = window
-        self._line, self._offset = line + 1, 0
-
     def _begin(self, name: bytes) -> bytes:
         self._name = name
-        self._look_at(self._window or (self._body_of(name), 0, 0))
+        self._offsets.begin(name)
         self._lines = self._matches = self._written = 0
         return _message("begin", {"path": _data(name)})
 
     def _end(self) -> bytes:
         if self._name is None:
             return b""
+        searched = self._offsets.before + len(self._offsets.body)
         stats = {
             "elapsed": _elapsed(self._began),
             "searches": 1,
             "searches_with_match": 1,
-            "bytes_searched": self._before + len(self._body),
+            "bytes_searched": searched,
             "bytes_printed": self._written,
             "matched_lines": self._lines,
             "matches": self._matches,
         }
         self._all_written += self._written
-        self._all_searched += self._before + len(self._body)
+        self._all_searched += searched
+        self._offsets.end()
         name, self._name = self._name, None
         return _message("end", {"path": _data(name), "binary_offset": None, "stats": stats})
 
     def _row(self, row: Row) -> bytes:
-        while self._line < row.number:
-            self._offset = self._body.find(b"\n", self._offset) + 1 or len(self._body)
-            self._line += 1
-        end = self._offset + len(row.text)
-        ending = b"" if end >= len(self._body) and not self._body.endswith(b"\n") else b"\n"
+        place, body = self._offsets.place(row.number), self._offsets.body
+        ending = b"" if place + len(row.text) >= len(body) and not body.endswith(b"\n") else b"\n"
         spans = self._empty.matches(row.text, row.spans, bool(ending)) if row.is_found and row.spans is not None else ()
         self._lines += row.is_found
         self._matches += len(spans)
@@ -110,7 +92,7 @@ class JsonLines:
             "path": _data(row.name),
             "lines": _data(row.text + ending),
             "line_number": row.number,
-            "absolute_offset": self._before + self._offset,
+            "absolute_offset": self._offsets.before + place,
             "submatches": matches,
         }
         return _message("match" if row.is_found else "context", content)
