@@ -13,8 +13,8 @@ import math
 import os
 import tempfile
 import time
-from collections.abc import Callable, Iterable, Iterator
-from typing import Any, Protocol
+from collections.abc import AsyncIterator, Callable, Iterable, Iterator
+from typing import IO, Any, Protocol
 
 from ..errors import Cancelled, Ended, Error, OptionRefused, PatternRefused
 from ..query import Query
@@ -375,6 +375,9 @@ class Call:
         )
         # where spans are known, columns are too
         needs_column = bool(self.given.get("column")) and not query.invert and not needs_spans
+        if self.given.get("passthru"):
+            await self._read_all(part, dataclasses.replace(query, spans=needs_spans, column=needs_column), lines)
+            return
         is_bounded = part.text is None or context is None
         query = dataclasses.replace(query, limit=self._limit_of(part) if is_bounded else None, context=context)
         if context is not None and (needs_spans or needs_column):
@@ -429,26 +432,48 @@ class Call:
             self._left -= answer.count
 
     async def _read_both(self, part: Part, query: Query, lines: forms.Lines, needs_spans: bool) -> None:
-        """Shows what takes two searches: lines around those that are found, and places in these. What does not go into a little memory
-        waits in files."""
+        """Shows what takes two searches: lines around those that are found, and places in these."""
         other = dataclasses.replace(query, context=None, spans=needs_spans, column=not needs_spans)
-        session = part.documents.session
-        with tempfile.SpooledTemporaryFile(_IN_MEMORY) as places, tempfile.SpooledTemporaryFile(_IN_MEMORY) as rows:
-            for _ in range(MOST_TRIES):
-                for file in places, rows:
-                    file.seek(0)
-                    file.truncate()
-                first, second = await session.pass_on(other, places.write), await session.pass_on(query, rows.write)
-                if (first.life, first.version) == (second.life, second.version):
-                    break
-            else:
-                raise Error("the files change too often for two searches")
-            for file in places, rows:
-                file.seek(0)
+        async with self._both(part, other, query) as (places, rows):
             reading = forms.Reading(part.piece, query.view, part.has, forms.places_of(places, other.view))
             while data := rows.read(_BLOCK):
                 self._write(itertools.chain.from_iterable(map(self._kept.take, reading.take(data))), lines)
                 await asyncio.sleep(0)
+
+    async def _read_all(self, part: Part, query: Query, lines: forms.Lines) -> None:
+        """Shows all lines, of which a search of its own tells which are found."""
+        query = dataclasses.replace(query, limit=None, context=None)
+        every = Query(b"", names=query.names, not_names=query.not_names)
+        async with self._both(part, query, every) as (places, rows):
+            found = forms.rows_of(forms.Reading(part.piece, query.view, part.has), places, _BLOCK)
+            after = next(found, None)
+            reading = forms.Reading(part.piece, every.view, part.has)
+            while data := rows.read(_BLOCK):
+                shown = []
+                for row in reading.take(data):
+                    is_found = after is not None and (row.name, row.number) == (after.name, after.number)
+                    shown.append(after if after and is_found else row._replace(is_found=False))
+                    after = next(found, None) if is_found else after
+                self._write(iter(shown), lines)
+                await asyncio.sleep(0)
+
+    @contextlib.asynccontextmanager
+    async def _both(self, part: Part, first: Query, second: Query) -> AsyncIterator[tuple[IO[bytes], IO[bytes]]]:
+        """The rows of two searches in the same files. What does not go into a little memory waits in files."""
+        session = part.documents.session
+        with tempfile.SpooledTemporaryFile(_IN_MEMORY) as one, tempfile.SpooledTemporaryFile(_IN_MEMORY) as other:
+            for _ in range(MOST_TRIES):
+                for file in one, other:
+                    file.seek(0)
+                    file.truncate()
+                answers = await session.pass_on(first, one.write), await session.pass_on(second, other.write)
+                if (answers[0].life, answers[0].version) == (answers[1].life, answers[1].version):
+                    break
+            else:
+                raise Error("the files change too often for two searches")
+            for file in one, other:
+                file.seek(0)
+            yield one, other
 
     def _write(self, rows: Iterator[forms.Row], lines: forms.Lines) -> None:
         form = self._json or lines

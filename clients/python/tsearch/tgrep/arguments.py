@@ -135,6 +135,9 @@ def _settle(given):
         given["color"] = "always"
     if given.get("vimgrep"):
         given.update({"heading": False, "column": True})
+    if given.get("passthru"):
+        for key in ("after", "before", "context", "max_count"):
+            given.pop(key, None)
     if given.get("limit") == 0:
         raise Refused("--limit is at least 1; -q shows nothing, and its status tells")
     for option, key in ("-A", "after"), ("-B", "before"), ("-C", "context"):

@@ -213,6 +213,12 @@ class Reading:
                 yield Row(self._shown, line, is_found, text, spans, at)
 
 
+def rows_of(reading: Reading, file: IO[bytes], block: int) -> Iterator[Row]:
+    """The rows of an answer in a file, of which so many bytes are read at a time."""
+    while data := file.read(block):
+        yield from reading.take(data)
+
+
 def places_of(rows: IO[bytes], view: View) -> Iterator[tuple[Spans | None, int | None]]:
     """The spans or the columns of the rows of an answer with the ones or the others."""
     for row in rows:

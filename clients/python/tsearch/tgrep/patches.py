@@ -18,7 +18,7 @@ from .asking import Piece
 # What the form has no place for.
 _NOT_SHOWN = {
     "context": "-C", "before": "-B", "after": "-A", "only_matching": "-o", "vimgrep": "--vimgrep", "stats": "--stats", "files": "--files",
-    "heading": "--heading", "max_columns": "-M", "trim": "--trim", "byte_offset": "-b", "largest": "--max-filesize", "text": "-a", "left_out": "--left-out",
+    "heading": "--heading", "max_columns": "-M", "trim": "--trim", "byte_offset": "-b", "passthru": "--passthru", "largest": "--max-filesize", "text": "-a", "left_out": "--left-out",
 }  # fmt: skip
 _SHOWS = {"lines": "", "names": "", "counts": "", "json": "", "other names": "-L", "match counts": "--count-matches"}
 # Why a file is left out that has no text.
