@@ -72,8 +72,8 @@ module _ (asks : Documents → Bool) (p : List ℕ → Bool) (step : (n body : L
   pub asks-puts : (waiting : List Update) (s : State) → ArePuts waiting
       → asks (after (commands_of waiting) s).documents ≡ (asks s.documents || list_any (puts p) waiting)
   asks-puts [] s are = or_false (asks s.documents)
-  asks-puts (Put n held ∷ later) s are =
-      asks-puts later (applied (put_command n held) s) (All-tail IsPut (Put n held) later are)
+  asks-puts (Put n held like ∷ later) s are =
+      asks-puts later (applied (put_command n held) s) (All-tail IsPut (Put n held like) later are)
       ∙ (ap (λ t. t || list_any (puts p) later) (step n held s.documents) ∙ put_first (asks s.documents) (p n) (list_any (puts p) later))
   asks-puts (Remove n ∷ later) s are = absurd (true≢false (sym (All-head IsPut (Remove n) later are)))
   asks-puts (RemoveUnder n ∷ later) s are = absurd (true≢false (sym (All-head IsPut (RemoveUnder n) later are)))

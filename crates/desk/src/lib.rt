@@ -10,6 +10,7 @@ mod counts;
 mod desk;
 mod error;
 mod exchange;
+mod hints;
 mod laws;
 mod opening;
 mod pending;

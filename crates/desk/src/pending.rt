@@ -1,6 +1,6 @@
 //! What was accepted since the last publish, and the documents that it leaves.
 
-ghost use Rattle.std.specs.Prelude.{◌≡◌, ◌+◌, ◌<◌, ◌^◌, ◌≤◌, [], length, drop, bytes_eq, nat_lt, IfOk, IfErr, OnOk, OnErr};
+ghost use Rattle.std.specs.Prelude.{◌≡◌, ◌+◌, ◌<◌, ◌^◌, ◌≤◌, [], length, drop, bytes_eq, nat_lt, IfOk, IfErr, IfSome, OnOk, OnErr};
 ghost use Rattle.std.specs.List.{list_any};
 ghost use Rattle.prefixes.specs.Under.{begins_with};
 ghost use Rattle.documents.specs.declared.command.Command.TheVariants.{Put as put_command};
@@ -9,11 +9,12 @@ ghost use Rattle.documents.specs.State.{state_of};
 ghost use Rattle.versions.specs.Updates.{after, command_of, commands_of};
 ghost use Rattle.desk.specs.Private.Puts.{ArePuts, is_long, puts};
 
+use crate::hints::{Hints, hash_of};
 use core::slice::from_ref;
 use documents::{Body, Held, Name};
 use std::alloc::{AllocError, Global};
 use std::thread::Threads;
-use versions::{Draft, Index, Update};
+use versions::{Draft, Index, Like, Update};
 
 /// The updates that were accepted since the last publish, and a draft of the documents after the first of them. A put is accepted
 /// without the draft, which takes it in later; what is not a put asks what documents there are, so the draft has it at once.
@@ -23,6 +24,7 @@ pub(crate) struct Pending {
     /// How many updates the draft has.
     pub(crate) done: usize,
     pub(crate) updates: Vec<Update>,
+    hints: Hints,
     ghost within: { done ≤ length updates.items },
     ghost puts: { ArePuts (drop done updates.items) },
 }
@@ -38,6 +40,7 @@ impl Pending {
             draft: Draft::new(alloc),
             done: 0,
             updates: Vec::new(alloc),
+            hints: Hints::new(alloc),
         }
     }
 
@@ -75,7 +78,8 @@ impl Pending {
             || is_put_long(&self.updates[self.done..], from, to, most)
     }
 
-    /// Adds the put of this name and body. An `Err` means that memory ran out, and hands them back.
+    /// Adds the put of this name and body. If the same body is there already, this one is dropped, and that one has one more name. An
+    /// `Err` means that memory ran out, and hands them back.
     pub(crate) fn put(&mut self, name: Name, body: Body) -> Result<(), (Name, Body)>
         ensures ok { OnOk result (Adds (put_command name body) self.old self.new) }
         ensures err { OnErr result (Stays self.old self.new) }
@@ -84,13 +88,72 @@ impl Pending {
         if self.updates.reserve(1).is_err() {
             return Err((name, body));
         }
-        match Held::new(body) {
-            Ok(held) => {
-                self.updates.push_reserved(Update::Put(name, held));
-                Ok(())
+        let hash = hash_of(&body);
+        let (held, like) = match self.kept(hash, &body) {
+            Some((held, like)) => {
+                drop(body);
+                (held, Some(like))
             }
-            Err(refused) => Err((name, refused.body)),
+            None => match Held::new(body) {
+                Ok(held) => (held, None),
+                Err(refused) => return Err((name, refused.body)),
+            },
+        };
+        if let Some(noted) = self.noted(&name, &like) {
+            self.hints.note(hash, noted, &self.draft);
         }
+        self.updates.push_reserved(Update::Put(name, held, like));
+        Ok(())
+    }
+
+    /// Another handle to a body that is there and is the same as this one, and where it is, if the hints lead to one.
+    fn kept(&self, hash: u64, body: &Body) -> Option<(Held, Like)>
+        ensures { IfSome result (λ kept. kept.0 ≡ body.now) }
+    {
+        let like = self.hints.get(hash)?;
+        let held = self.placed(like)?;
+        if held.body().as_bytes() != body.as_bytes() {
+            return None;
+        }
+        let held = held.share().ok()?;
+        let name = like.name.share().ok()?;
+        let (version, number) = (like.version, like.number);
+        Some((
+            held,
+            Like {
+                name,
+                version,
+                number,
+            },
+        ))
+    }
+
+    /// The body where the hint says, if there is one: that of a put which the draft lacks, or else the one under the name.
+    fn placed(&self, like: &Like) -> Option<&Held> {
+        let waiting = &self.updates[self.done..];
+        if like.version >= self.draft.version() {
+            let at = (like.version - self.draft.version()) as usize;
+            if let Some(Update::Put(_, held, _)) = waiting.get(at) {
+                return Some(held);
+            }
+        }
+        self.draft.held(&like.name)
+    }
+
+    /// Where the body of the next put is then, if it is put under this name, and now is where the other hint says, or nowhere.
+    fn noted(&self, name: &Name, like: &Option<Like>) -> Option<Like> {
+        let name = name.share().ok()?;
+        let waiting = u32::try_from(self.updates.len() - self.done).ok()?;
+        let version = self.draft.version().checked_add(waiting)?;
+        let number = match like {
+            Some(like) => like.number,
+            None => version,
+        };
+        Some(Like {
+            name,
+            version,
+            number,
+        })
     }
 
     /// Adds an update, which the draft takes in at once. An `Err` means that memory ran out, or that something has too many handles.
@@ -157,7 +220,7 @@ fn puts_name(update: &Update, name: &Name) -> bool
     ensures { result ≡ puts (λ other. bytes_eq other name.now) update.now }
 {
     match update {
-        Update::Put(other, _) => other.as_bytes() == name.as_bytes(),
+        Update::Put(other, _, _) => other.as_bytes() == name.as_bytes(),
         _ => false,
     }
 }
@@ -173,7 +236,7 @@ fn puts_under(update: &Update, prefix: &Name) -> bool
     ensures { result ≡ puts (begins_with prefix.now) update.now }
 {
     match update {
-        Update::Put(name, _) => begins(name, prefix),
+        Update::Put(name, _, _) => begins(name, prefix),
         _ => false,
     }
 }
@@ -191,7 +254,7 @@ fn puts_long(update: &Update, from: &Name, to: &Name, most: usize) -> bool
     ensures { result ≡ puts (is_long most from.now to.now) update.now }
 {
     match update {
-        Update::Put(name, _) => begins(name, from) && is_long_copy(name, from, to, most),
+        Update::Put(name, _, _) => begins(name, from) && is_long_copy(name, from, to, most),
         _ => false,
     }
 }

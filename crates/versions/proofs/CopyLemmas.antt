@@ -1,5 +1,5 @@
 -- Copies of contents under other names.
-use Rattle.std.proofs.Common.{◌≡◌, ℕ, ◌+◌, ◌<◌, ◌≤◌, ◌&&◌, ◌||◌, ◌⊎◌, inl, inr, Bool, true, false, List, [], ◌∷◌, ◌++◌, map, length, drop, take, Some, Contains, refl, sym, ◌∙◌, ap, subst, arith}
+use Rattle.std.proofs.Common.{◌≡◌, ℕ, ◌+◌, ◌&&◌, ◌||◌, inl, inr, Bool, true, false, List, ◌++◌, map, length, drop, take, Some, Contains, refl, sym, ◌∙◌, ap, subst, arith}
 use Rattle.std.specs.Prelude.{filter, nat_lt, not}
 use Rattle.std.specs.List.{list_any}
 use Rattle.std.specs.FinMap.{entries, from_entries, get, keys}
@@ -10,7 +10,7 @@ use Rattle.std.proofs.lemmas.List.{map-append, length-append, take-append-drop}
 use Rattle.std.proofs.lemmas.List.Folds.{list_any-append, list_any_at}
 use Rattle.std.proofs.lemmas.List.Elements.{Contains-append_cases}
 use Rattle.prefixes.specs.Under.{begins_with}
-use Rattle.documents.specs.Documents.{Documents, renamed, copies as document_copies}
+use Rattle.documents.specs.Documents.{renamed, copies as document_copies}
 use Rattle.documents.specs.State.{State, state, applied}
 use Rattle.documents.specs.Text.{IsName, greatest_name, has_bad_byte, is_name_byte}
 use Rattle.documents.specs.declared.command.Command.TheVariants.{CopyUnder}
@@ -18,7 +18,7 @@ use Rattle.documents.proofs.ElementLemmas.{filter-Contains, Contains-map, map-Co
 use Rattle.names.specs.declared.content.Content.{Content}
 use Rattle.names.specs.Contents.{Contents, copies}
 use Rattle.segments.specs.Contents.{Content as Trigrams}
-use Rattle.versions.specs.Private.Version.{Entry, plain, bodies_of, IsEntry, IsVersion}
+use Rattle.versions.specs.Private.Version.{Entry, plain, bodies_of, IsVersion}
 use Rattle.versions.proofs.BodyLemmas.{R, entries-bodies, bodies-from_entries, in_found, entry_found}
 
 -- ---- the bodies

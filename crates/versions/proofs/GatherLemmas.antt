@@ -3,7 +3,7 @@ use Rattle.std.proofs.Common.{◌≡◌, ℕ, ◌+◌, ◌<◌, ◌≤◌, ◌^�
 use Rattle.std.specs.Prelude.{filter, nat_lt, not}
 use Rattle.std.specs.FinMap.{entries, len, len-entries}
 use Rattle.std.proofs.lemmas.Bool.Decides.{nat_tests}
-use Rattle.std.proofs.lemmas.List.{get_or-map, take_more, take_all, length-take, length-map, map-append, map_push, append-nil}
+use Rattle.std.proofs.lemmas.List.{get_or-map, take_more, length-map, map-append, map_push, append-nil}
 use Rattle.std.proofs.Math.Bool.{and-false}
 use Rattle.std.proofs.lemmas.List.Elements.{filter-append, Contains-append_left, Contains-get_or}
 use Rattle.std.proofs.lemmas.List.Filters.{length-filter_both}

@@ -1,9 +1,9 @@
 -- What is said of contents that some name has stays when segments become one.
-use Rattle.std.proofs.Common.{◌≡◌, ◌≢◌, ℕ, zero, suc, ◌+◌, ◌<◌, ◌≤◌, ◌==◌, ◌||◌, ◌⊎◌, inl, inr, Bool, true, false, List, [], ◌∷◌, ◌++◌, length, map, take, get_or, Some, None, Contains, refl, sym, ◌∙◌, ap, subst, arith}
-use Rattle.std.specs.Prelude.{All, AllPairs, Option, filter, nat_le}
+use Rattle.std.proofs.Common.{◌≡◌, ◌≢◌, ℕ, ◌+◌, ◌<◌, ◌≤◌, ◌==◌, ◌||◌, inl, inr, Bool, true, false, List, [], ◌∷◌, ◌++◌, length, map, take, get_or, Some, None, Contains, refl, sym, ◌∙◌, ap, subst, arith}
+use Rattle.std.specs.Prelude.{All, AllPairs, Option}
 use Rattle.std.specs.List.Sorted.{IsStrictlyIncreasing}
-use Rattle.std.specs.FinMap.{entries, get}
-use Rattle.std.proofs.lemmas.Bool.{false≢true, le-leb}
+use Rattle.std.specs.FinMap.{get}
+use Rattle.std.proofs.lemmas.Bool.{false≢true}
 use Rattle.std.proofs.lemmas.Bool.Decides.{nat_tests}
 use Rattle.std.proofs.lemmas.List.{map-append, take_more, take_all}
 use Rattle.std.proofs.lemmas.List.Kept.{AllPairs-cons, AllPairs-from_increasing, IsStrictlyIncreasing-filter}
@@ -12,8 +12,8 @@ use Rattle.documents.proofs.ElementLemmas.{Contains-cons, Contains-head, Contain
 use Rattle.names.specs.declared.content.Content.{Content}
 use Rattle.names.specs.Contents.{Contents}
 use Rattle.segments.specs.Contents.{Content as Trigrams, has, numbers_of, content_numbered, kept, AllDiffer}
-use Rattle.segments.proofs.Joining.{numbers-kept, All-kept, All-find, find_number, differ-tail, differ-head}
-use Rattle.versions.specs.Private.Version.{Entry, IsSaid, IsEntry, IsVersion}
+use Rattle.segments.proofs.Joining.{numbers-kept, All-kept, All-find, differ-tail, differ-head}
+use Rattle.versions.specs.Private.Version.{IsVersion}
 use Rattle.versions.specs.Private.Merging.{AreNumbersOf, KeepsNamed}
 use Rattle.std.specs.List.{dedup}
 use Rattle.std.specs.Ordering.{nat_cmp}

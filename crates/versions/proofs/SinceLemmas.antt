@@ -1,6 +1,5 @@
 -- The contents of names with late numbers.
-use Rattle.std.proofs.Common.{◌≡◌, ℕ, ◌<◌, ◌≤◌, true, List, map, length, get_or, Some, Contains, refl, sym, ◌∙◌, ap, subst, arith}
-use Rattle.std.specs.Prelude.{filter}
+use Rattle.std.proofs.Common.{◌≡◌, ℕ, ◌<◌, ◌≤◌, List, length, Some, Contains, sym, ◌∙◌, ap, subst, arith}
 use Rattle.std.specs.Borrow.{Bor}
 use Rattle.std.specs.FinMap.{entries, values, get}
 use Rattle.std.proofs.lemmas.Bool.{le-leb}
@@ -10,7 +9,7 @@ use Rattle.documents.proofs.ElementLemmas.{Contains-map, map-Contains, Contains-
 use Rattle.names.specs.declared.content.Content.{Content}
 use Rattle.names.specs.Contents.{Contents, contents_of, is_since, since}
 use Rattle.segments.specs.Contents.{Content as Trigrams}
-use Rattle.versions.specs.Private.Version.{Entry, IsSaid, IsEntry, IsVersion}
+use Rattle.versions.specs.Private.Version.{Entry, IsSaid, IsVersion}
 use Rattle.versions.specs.Private.Fresh.{no_entry, as_entry, unnamed, entry_at, number_at, AreAnalysed, NumbersTell}
 use Rattle.versions.proofs.BodyLemmas.{entry_found, found_entry}
 

@@ -11,7 +11,7 @@ use Rattle.std.proofs.lemmas.List.{get_or_default}
 use Rattle.std.proofs.lemmas.List.Elements.{All-contains_itself, All-weaker, All-append, All-nil, Contains-append_left, Contains-append_right}
 use Rattle.documents.specs.Documents.{Document, listed}
 use Rattle.documents.specs.State.{State, state, applied, IsState}
-use Rattle.documents.specs.declared.command.Command.TheVariants.{Put, Remove, RemoveUnder}
+use Rattle.documents.specs.declared.command.Command.TheVariants.{Remove, RemoveUnder}
 use Rattle.prefixes.specs.Under.{begins_with}
 use Rattle.documents.specs.Text.{IsName, IsBody}
 use Rattle.documents.proofs.ListedLemmas.{found-listed}
@@ -21,7 +21,7 @@ use Rattle.names.specs.Contents.{Contents, contents_of, since}
 use Rattle.segments.specs.Contents.{Content as Trigrams}
 use Rattle.versions.specs.Private.Version.{Entry, bodies_of, IsSaid, IsEntry, IsVersion}
 use Rattle.versions.specs.Private.Fresh.{no_entry, unnamed, entry_at, number_at, AreAnalysed}
-use Rattle.versions.proofs.BodyLemmas.{R, same_name, alike, get-bodies, entry_found, found_entry, bodies-insert, bodies-remove, bodies-retain}
+use Rattle.versions.proofs.BodyLemmas.{R, same_name, alike, get-bodies, found_entry, bodies-remove, bodies-retain}
 use Rattle.versions.specs.Private.Merging.{KeepsNamed}
 use Rattle.versions.proofs.SaidLemmas.{differ-append}
 use Rattle.versions.proofs.SinceLemmas.{analysed_all}
@@ -89,56 +89,14 @@ equal Less h = cc
 equal Equal h = refl
 equal Greater h = cc
 
-module _ (version analysed : ℕ) (old : Contents) (all : List Trigrams) (k : List ℕ) (put : Content) (is : IsVersion version analysed old all)
-    (name_is : IsName k) (body_is : IsBody put.held) (number_is : put.number ≡ version) where
-  -- what has a name then was put now, or had it before
-  either : (name : List ℕ) (c : Content) → get (insert old k put) name ≡ Some c → ((k ≡ name) × (put ≡ c)) ⊎ (get old name ≡ Some c)
-  either name c found = go (eq_by_cmp R name k) refl (sym (get-insert nat_list_cmp_total old k put name) ∙ found)
-    where
-      go : (t : Bool) → eq_by_cmp R name k ≡ t → cond t (Some put) (get old name) ≡ Some c → ((k ≡ name) × (put ≡ c)) ⊎ (get old name ≡ Some c)
-      go true tie e = inl (sym (same_name name k (equal (R name k) tie)), cc)
-      go false tie e = inr e
-
-  new_entry : IsEntry (version + 1) analysed all k put
-  new_entry = record {
-    name_is = name_is;
-    body_is = body_is;
-    before = omega (arith, number_is);
-    is_said = λ less. let most = is.order in absurd (omega (arith, number_is, less, most));
-  }
-
-  named_then : (name : List ℕ) (c : Content) → get (insert old k put) name ≡ Some c → IsEntry (version + 1) analysed all name c
-  named_then name c found = go (either name c found)
-    where
-      go : ((k ≡ name) × (put ≡ c)) ⊎ (get old name ≡ Some c) → IsEntry (version + 1) analysed all name c
-      go (inl now) = subst (λ n. IsEntry (version + 1) analysed all n c) now.0 (subst (IsEntry (version + 1) analysed all k) now.1 new_entry)
-      go (inr before) = entry_later version analysed all name c (is.named name c before)
-
-  -- no earlier content has the number
-  apart : (name : List ℕ) (c d : Content) → put ≡ c → get old name ≡ Some d → c.number ≡ d.number → c.held ≡ d.held
-  apart name c d now found e =
-      let less = (is.named name d found).before in
-      let mine : c.number ≡ version = ap (λ (x : Content). x.number) (sym now) ∙ number_is in
-      absurd (omega (arith, less, mine, e))
-
-  same_then : (name other : List ℕ) (c d : Content) → get (insert old k put) name ≡ Some c → get (insert old k put) other ≡ Some d
-      → c.number ≡ d.number → c.held ≡ d.held
-  same_then name other c d found there e = go (either name c found) (either other d there)
-    where
-      go : ((k ≡ name) × (put ≡ c)) ⊎ (get old name ≡ Some c) → ((k ≡ other) × (put ≡ d)) ⊎ (get old other ≡ Some d) → c.held ≡ d.held
-      go (inl now) (inl too) = ap (λ (x : Content). x.held) (sym now.1 ∙ too.1)
-      go (inl now) (inr before) = apart other c d now.1 before e
-      go (inr before) (inl now) = sym (apart name d c now.1 before (sym e))
-      go (inr one) (inr two) = is.same name other c d one two e
-
-  pub added : IsVersion (version + 1) analysed (insert old k put) all
-  added = record {
-    named = named_then;
-    same = same_then;
-    differ = is.differ;
-    below = is.below;
-    order = let most = is.order in omega (arith, most);
-  }
+-- what has a name after a put was put, or had it before
+pub put_or_before : (old : Contents) (k : List ℕ) (put : Content) (name : List ℕ) (c : Content) → get {R = R} (insert old k put) name ≡ Some c
+    → ((k ≡ name) × (put ≡ c)) ⊎ (get {R = R} old name ≡ Some c)
+put_or_before old k put name c found = go (eq_by_cmp R name k) refl (sym (get-insert nat_list_cmp_total old k put name) ∙ found)
+  where
+    go : (t : Bool) → eq_by_cmp R name k ≡ t → cond t (Some put) (get old name) ≡ Some c → ((k ≡ name) × (put ≡ c)) ⊎ (get {R = R} old name ≡ Some c)
+    go true tie e = inl (sym (same_name name k (equal (R name k) tie)), cc)
+    go false tie e = inr e
 
 -- ---- segments for all that is new
 
@@ -215,13 +173,6 @@ is_state version analysed contents all is =
         (entry.name_is, subst IsBody found.2 entry.body_is)
 
 -- ---- what is made is what the command leaves
-
-pub put_done : (version : ℕ) (old new : Contents) (k : List ℕ) (put : Content) (held : List ℕ) (now next : State) → state version (bodies_of old) ≡ now
-    → new ≡ insert old k put → put.held ≡ held → next ≡ state (version + 1) (bodies_of new) → next ≡ applied (Put k held) now
-put_done version old new k put held now next view_is new_is held_is is =
-    is
-    ∙ (ap (state (version + 1)) (ap bodies_of new_is ∙ (bodies-insert old k put ∙ ap (insert (bodies_of old) k) held_is))
-    ∙ ap (applied (Put k held)) view_is)
 
 pub remove_done : (version : ℕ) (old new : Contents) (k : List ℕ) (now next : State) → state version (bodies_of old) ≡ now
     → new ≡ remove old k → next ≡ state (version + 1) (bodies_of new) → next ≡ applied (Remove k) now

@@ -9,7 +9,7 @@ use Rattle.versions.specs.declared.update.Update.TheVariants as update
 
 -- the command of an update
 abbrev pub command_of : Update → Command
-command_of (update.Put name held) = Put name held
+command_of (update.Put name held like) = Put name held
 command_of (update.Remove name) = Remove name
 command_of (update.RemoveUnder prefix) = RemoveUnder prefix
 command_of (update.CopyUnder from to) = CopyUnder from to

@@ -1,12 +1,11 @@
 //! An index to which commands are applied, before its bodies are analysed.
 
-ghost use Rattle.std.specs.Prelude.{◌≡◌, ◌+◌, ◌<◌, ◌^◌, [], IfOk, length};
-ghost use Rattle.std.specs.FinMap.{len};
-ghost use Rattle.documents.specs.declared.command.Command.TheVariants.{Put as put_command, Remove as remove_command, RemoveUnder as remove_under_command, CopyUnder as copy_under_command};
+ghost use Rattle.std.specs.Prelude.{◌≡◌, ◌+◌, ◌<◌, ◌^◌, [], IfOk, length, option_map, true};
+ghost use Rattle.std.specs.FinMap.{get, len};
+ghost use Rattle.documents.specs.declared.command.Command.TheVariants.{Remove as remove_command, RemoveUnder as remove_under_command, CopyUnder as copy_under_command};
 ghost use Rattle.documents.specs.Documents.{has_under, has_long_copy, is_taken};
 ghost use Rattle.documents.specs.State.{state, state_of, applied};
-ghost use Rattle.versions.specs.Updates.{after, command_of, commands_of};
-ghost use Rattle.versions.specs.Private.Growing.{commands_put, AreNumbered};
+ghost use Rattle.versions.specs.Updates.{after, commands_of};
 ghost use Rattle.versions.specs.Private.Version.{bodies_of, IsVersion};
 
 use crate::bodies::body_under;
@@ -14,9 +13,9 @@ use crate::fresh::fresh_sets;
 use crate::growing::Growing;
 use crate::index::Index;
 use crate::sets::Sets;
-use crate::update::Update;
+use crate::update::{Like, Update};
 use documents::{Held, MAX_NAME, Name};
-use names::{Content, Names, Put};
+use names::Names;
 use std::alloc::{AllocError, Global};
 use std::marker::Model;
 use std::thread::Threads;
@@ -28,11 +27,11 @@ use std::thread::Threads;
 /// Contracts see it as its state: how many commands were applied, and the body under each name.
 #[derive(Drop)]
 pub struct Draft {
-    version: u32,
-    /// The contents with lower numbers are in the segments. A content's number is the version before it was put.
-    analysed: u32,
-    names: Names,
-    sets: Sets,
+    pub(crate) version: u32,
+    /// The contents with lower numbers are in the segments.
+    pub(crate) analysed: u32,
+    pub(crate) names: Names,
+    pub(crate) sets: Sets,
 }
 
 impl Model for Draft {
@@ -77,6 +76,29 @@ impl Draft {
         body_under(&self.names, name).is_some()
     }
 
+    /// The body of the document with this name, if there is one.
+    pub fn held(&self, name: &Name) -> Option<&Held>
+        ensures { option_map (λ held. held.now) result ≡ get self.now.documents name.now }
+    {
+        match self.names.get(name.as_bytes()) {
+            Some(content) => Some(&content.held),
+            None => None,
+        }
+    }
+
+    /// Whether a hint leads to a content: the name has the one with this number, or the put of the name comes later.
+    pub fn leads(&self, like: &Like) -> bool
+        ensures { result ≡ true → like.now.version < self.now.version → is_taken like.now.name self.now.documents ≡ true }
+    {
+        if like.version >= self.version {
+            return true;
+        }
+        match self.names.get(like.name.as_bytes()) {
+            Some(content) => content.number == like.number,
+            None => false,
+        }
+    }
+
     /// Whether the copy of some document whose name begins with `from`, under the name with `to` in its place, would have a name of more
     /// than `most` bytes.
     pub fn has_long_copy(&self, from: &Name, to: &Name, most: usize) -> bool
@@ -113,47 +135,8 @@ impl Draft {
         next.settled()
     }
 
-    /// The documents after these puts, whose numbers follow the version. An `Err` is as that of `after`.
-    pub(crate) fn with_puts(&self, puts: &[Put<'_>]) -> Result<Draft, AllocError>
-        requires few { self.now.version + length puts.now < 2 ^ 32 }
-        requires numbered { AreNumbered self.now.version puts.now }
-        ensures { IfOk result (λ next. next ≡ after (commands_put puts.now) self.now) }
-    {
-        let names = self.names.with_all(puts)?;
-        let version = self.version + puts.len() as u32;
-        next(version, self.analysed, names, &self.sets)
-    }
-
-    /// The documents after one more command. An `Err` is as that of `after`.
-    pub(crate) fn with(&self, update: &Update) -> Result<Draft, AllocError>
-        requires { self.now.version + 1 < 2 ^ 32 }
-        ensures { IfOk result (λ next. next ≡ applied (command_of update.now) self.now) }
-    {
-        match update {
-            Update::Put(name, held) => self.put(name, held),
-            Update::Remove(name) => self.remove(name),
-            Update::RemoveUnder(prefix) => self.remove_under(prefix),
-            Update::CopyUnder(from, to) => self.copy_under(from, to),
-        }
-    }
-
-    /// The documents after the `Put` of this name and body, of which a handle is kept.
-    fn put(&self, name: &Name, held: &Held) -> Result<Draft, AllocError>
-        requires { self.now.version + 1 < 2 ^ 32 }
-        ensures { IfOk result (λ next. next ≡ applied (put_command name.now held.now) self.now) }
-    {
-        // its contract says that the body is one
-        let _ = held.body().as_bytes();
-        let content = Content {
-            number: self.version,
-            held: held.share()?,
-        };
-        let names = self.names.put(name.as_bytes(), content)?;
-        next(self.version + 1, self.analysed, names, &self.sets)
-    }
-
     /// The documents after the `Remove` of this name.
-    fn remove(&self, name: &Name) -> Result<Draft, AllocError>
+    pub(crate) fn remove(&self, name: &Name) -> Result<Draft, AllocError>
         requires { self.now.version + 1 < 2 ^ 32 }
         ensures { IfOk result (λ next. next ≡ applied (remove_command name.now) self.now) }
     {
@@ -162,7 +145,7 @@ impl Draft {
     }
 
     /// The documents after the `RemoveUnder` of this prefix.
-    fn remove_under(&self, prefix: &Name) -> Result<Draft, AllocError>
+    pub(crate) fn remove_under(&self, prefix: &Name) -> Result<Draft, AllocError>
         requires { self.now.version + 1 < 2 ^ 32 }
         ensures { IfOk result (λ next. next ≡ applied (remove_under_command prefix.now) self.now) }
     {
@@ -171,7 +154,7 @@ impl Draft {
     }
 
     /// The documents after the `CopyUnder` of these texts.
-    fn copy_under(&self, from: &Name, to: &Name) -> Result<Draft, AllocError>
+    pub(crate) fn copy_under(&self, from: &Name, to: &Name) -> Result<Draft, AllocError>
         requires { self.now.version + 1 < 2 ^ 32 }
         ensures { IfOk result (λ next. next ≡ applied (copy_under_command from.now to.now) self.now) }
     {
@@ -222,7 +205,12 @@ impl Draft {
 }
 
 /// What commands leave: these names, and the same segments.
-fn next(version: u32, analysed: u32, names: Names, sets: &Sets) -> Result<Draft, AllocError>
+pub(crate) fn next(
+    version: u32,
+    analysed: u32,
+    names: Names,
+    sets: &Sets,
+) -> Result<Draft, AllocError>
     requires whole { IsVersion version analysed names sets.now }
     ensures { IfOk result (λ next. next ≡ state version (bodies_of names)) }
 {

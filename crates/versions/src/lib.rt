@@ -13,4 +13,4 @@ mod update;
 
 pub use draft::Draft;
 pub use index::Index;
-pub use update::Update;
+pub use update::{Like, Update};

@@ -7,7 +7,7 @@ use Rattle.versions.specs.declared.update.Update.TheVariants.{Put, Remove, Remov
 
 -- whether the update puts a document whose name passes the test
 abbrev pub puts : (List ℕ → Bool) → Update → Bool
-puts passes (Put name held) = passes name
+puts passes (Put name held like) = passes name
 puts passes (Remove name) = false
 puts passes (RemoveUnder prefix) = false
 puts passes (CopyUnder from to) = false

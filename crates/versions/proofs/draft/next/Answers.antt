@@ -1,4 +1,4 @@
-use Rattle.std.proofs.Common.{◌<◌, ◌+◌, ◌^◌, ◌∙◌, ap, sym, subst, arith}
+use Rattle.std.proofs.Common.{◌<◌, ◌^◌, ◌∙◌, ap, sym, subst, arith}
 use Rattle.std.specs.FinMap.{len}
 use Rattle.documents.specs.State.{state}
 use Rattle.names.specs.Contents.{Contents}

@@ -1,4 +1,4 @@
-use Rattle.std.proofs.Common.{◌+◌, ◌≡◌, ◌≤◌, ◌++◌, ◌∙◌, length, ap, subst, sym, arith}
+use Rattle.std.proofs.Common.{◌+◌, ◌≡◌, ◌++◌, length, subst, arith}
 use Rattle.std.proofs.lemmas.Result.{IfOk-at_ok, IfOk-weaker}
 use Rattle.versions.specs.Private.Fresh.{unnamed, AreAnalysed}
 use Rattle.versions.proofs.FreshLemmas.{analysed_both}

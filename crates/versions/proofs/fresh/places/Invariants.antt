@@ -1,4 +1,4 @@
-use Rattle.versions.specs.Private.Fresh.{unnamed, as_entry, ArePlaces}
+use Rattle.versions.specs.Private.Fresh.{unnamed, ArePlaces}
 use Rattle.versions.proofs.fresh.places.Given as goal
 
 abbrev pub invariant-loop-place : goal.invariant-loop-place

@@ -1,12 +1,11 @@
-use Rattle.std.proofs.Common.{ℕ, List, None, length, get_or, refl, ap, sym, subst, arith, ◌+◌, ◌≡◌, ◌∙◌}
+use Rattle.std.proofs.Common.{ℕ, List, None, length, get_or, refl, sym, subst, arith, ◌+◌, ◌≡◌}
 use Rattle.std.specs.Prelude.{Option}
 use Rattle.std.proofs.lemmas.List.{length-map}
 use Rattle.std.proofs.lemmas.Result.{IfOk-weaker}
 use Rattle.std.specs.Borrow.{Bor}
 use Rattle.names.specs.declared.content.Content.{Content}
-use Rattle.segments.specs.Contents.{Content as Trigrams}
 use Rattle.versions.specs.Private.Fresh.{unnamed, as_entry, ArePlaces, AreAnalysed, AddsContent}
-use Rattle.versions.proofs.FreshLemmas.{analysed_none, analysed_same, no_place, nowhere, one_more, content_there}
+use Rattle.versions.proofs.FreshLemmas.{analysed_none, analysed_same, no_place, nowhere, one_more}
 use Rattle.versions.proofs.fresh.segment_of.Goals as goal
 use Rattle.versions.proofs.fresh.segment_of.Goals.{in-Some+in_ok-made, in_default}
 

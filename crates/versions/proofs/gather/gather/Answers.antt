@@ -1,4 +1,4 @@
-use Rattle.std.proofs.Common.{◌<◌, length, ap, subst, arith}
+use Rattle.std.proofs.Common.{◌<◌, length, subst, arith}
 use Rattle.std.proofs.lemmas.List.{length-map, take_all}
 use Rattle.names.specs.Contents.{entry_of, entries_of}
 use Rattle.versions.specs.Private.Gathered.{AreFirstUnder}

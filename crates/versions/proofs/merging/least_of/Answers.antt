@@ -1,4 +1,4 @@
-use Rattle.std.proofs.Common.{◌≡◌, ◌≤◌, get_or, sym, arith, refl}
+use Rattle.std.proofs.Common.{get_or, arith}
 use Rattle.std.proofs.lemmas.List.{get_or_default}
 use Rattle.versions.proofs.MergeLemmas.{least_next, least_all}
 use Rattle.versions.proofs.merging.least_of.Goals as goal

@@ -1,4 +1,4 @@
-use Rattle.std.proofs.Common.{◌≡◌, ◌∙◌, ap, sym, length, take, arith}
+use Rattle.std.proofs.Common.{◌≡◌, ◌∙◌, ap, length, take, arith}
 use Rattle.std.proofs.lemmas.Result.{IfOk-weaker}
 use Rattle.std.proofs.lemmas.List.{take_all, length-map, length-take-le}
 use Rattle.documents.specs.State.{State}

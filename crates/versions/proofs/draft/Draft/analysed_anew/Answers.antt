@@ -1,6 +1,6 @@
-use Rattle.std.proofs.Common.{◌≡◌, ◌++◌, ◌-◌, ◌∙◌, ap, arith, refl, rules}
+use Rattle.std.proofs.Common.{◌++◌, ◌-◌, ◌∙◌, ap, arith, refl, rules}
 use Rattle.documents.specs.State.{state}
-use Rattle.names.specs.Contents.{contents_of, since}
+use Rattle.names.specs.Contents.{contents_of}
 use Rattle.versions.specs.Private.Version.{bodies_of}
 use Rattle.versions.proofs.SinceLemmas.{since_tell}
 use Rattle.versions.proofs.VersionLemmas.{whole_made, settled_made, same_few}

@@ -1,4 +1,4 @@
-use Rattle.std.proofs.Common.{◌≡◌, ◌+◌, ◌++◌, ◌&&◌, false, length, sym, ap, ◌∙◌, subst, arith}
+use Rattle.std.proofs.Common.{◌≡◌, ◌+◌, ◌++◌, ◌&&◌, false, length, sym, ap, ◌∙◌, subst}
 use Rattle.std.specs.Prelude.{nat_lt}
 use Rattle.std.specs.FinMap.{entries, from_entries, keys}
 use Rattle.std.specs.List.{list_any}
@@ -6,7 +6,7 @@ use Rattle.std.proofs.lemmas.Result.{IfOk-weaker}
 use Rattle.prefixes.specs.Under.{begins_with}
 use Rattle.documents.specs.Documents.{renamed}
 use Rattle.documents.specs.Text.{greatest_name}
-use Rattle.documents.specs.State.{State, state, applied}
+use Rattle.documents.specs.State.{state, applied}
 use Rattle.documents.specs.declared.command.Command.TheVariants.{CopyUnder}
 use Rattle.names.specs.Contents.{copies}
 use Rattle.versions.specs.Private.Version.{bodies_of, IsVersion}

@@ -1,7 +1,7 @@
-use Rattle.std.proofs.Common.{◌≡◌, ◌+◌, sym, ap, ◌∙◌, subst, arith}
+use Rattle.std.proofs.Common.{◌≡◌, ◌+◌, sym, ap, ◌∙◌, subst}
 use Rattle.std.specs.FinMap.{remove}
 use Rattle.std.proofs.lemmas.Result.{IfOk-weaker}
-use Rattle.documents.specs.State.{State, state, applied}
+use Rattle.documents.specs.State.{state, applied}
 use Rattle.documents.specs.declared.command.Command.TheVariants.{Remove}
 use Rattle.versions.specs.Private.Version.{bodies_of, IsVersion}
 use Rattle.versions.proofs.VersionLemmas.{removed, remove_done}

@@ -1,9 +1,9 @@
-use Rattle.std.proofs.Common.{◌≡◌, ◌+◌, sym, ap, ◌∙◌, subst, arith}
+use Rattle.std.proofs.Common.{◌≡◌, ◌+◌, sym, ap, ◌∙◌, subst}
 use Rattle.std.specs.Prelude.{not}
 use Rattle.std.specs.FinMap.{retain_keys}
 use Rattle.std.proofs.lemmas.Result.{IfOk-weaker}
 use Rattle.prefixes.specs.Under.{begins_with}
-use Rattle.documents.specs.State.{State, state, applied}
+use Rattle.documents.specs.State.{state, applied}
 use Rattle.documents.specs.declared.command.Command.TheVariants.{RemoveUnder}
 use Rattle.versions.specs.Private.Version.{bodies_of, IsVersion}
 use Rattle.versions.proofs.VersionLemmas.{retained, remove_under_done}

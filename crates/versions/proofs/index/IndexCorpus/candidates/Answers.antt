@@ -1,12 +1,8 @@
-use Rattle.std.proofs.Common.{◌≡◌, ◌∙◌, length, sym, ap, subst, arith}
-use Rattle.std.specs.Prelude.{filter}
-use Rattle.std.specs.FinMap.{entries}
+use Rattle.std.proofs.Common.{◌∙◌, sym, subst, arith}
 use Rattle.std.specs.List.Sorted.{IsStrictlyIncreasing}
 use Rattle.query.specs.Query.{formula_of}
 use Rattle.documents.specs.State.{State}
 use Rattle.documents.specs.Shared.{AreCandidates}
-use Rattle.names.specs.Contents.{entries_of}
-use Rattle.versions.specs.Private.Gathered.{is_chosen}
 use Rattle.versions.proofs.GatherLemmas.{found_are, few_chosen}
 use Rattle.versions.proofs.index.IndexCorpus.candidates.Goals as goal
 
