@@ -51,8 +51,9 @@ def beside(script):
     return pathlib.Path(script).resolve().with_suffix(".rt.txt")
 
 
-def build_program(folder, source, uses):
-    """Compiles a program NAME.rt.txt, with checks and no optimisation, over copies of these crates in a folder, and returns its path."""
+def build_program(folder, source, uses, level="-O0"):
+    """Compiles a program NAME.rt.txt, with checks and this level of optimisation, over copies of these crates in a folder, and returns its
+    path."""
     name = source.name.split(".")[0]
     copy_crates(folder, uses, name)
     top = pathlib.Path(folder).resolve()
@@ -61,7 +62,7 @@ def build_program(folder, source, uses):
     room.mkdir()
     shutil.copy(source, own / "src/main.rt")
     try:
-        Compilation(room, time.monotonic(), own, top, "-O0").build(program)
+        Compilation(room, time.monotonic(), own, top, level).build(program)
     except (CannotBuild, Unexpected) as error:
         sys.exit(f"{script_name()}: the program is not built: {error}")
     return program
