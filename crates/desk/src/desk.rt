@@ -268,6 +268,11 @@ impl Desk {
         ensures ok { IfOk result (λ told. (self.new ≡ all_published self.old) × (told ≡ known self.old.opening self.old.accepted)) }
         ensures err { OnErr result (self.new ≡ self.old) }
     {
+        if self.pending.len() == 0 {
+            return Ok(Told {
+                front: self.front.again(),
+            });
+        }
         self.pending.settle()?;
         let index = self.pending.whole(rt, self.threads)?;
         let index = Arc::new(self.pending.allocator(), index)?;

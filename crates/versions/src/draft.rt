@@ -185,7 +185,7 @@ impl Draft {
         let contents = self.names.since(self.analysed)?;
         let count = (self.version - self.analysed) as usize;
         let fresh = fresh_sets(rt, alloc, threads, &contents, self.analysed as usize, count)?;
-        let sets = self.sets.share()?.joined(fresh)?.settled(&self.names)?;
+        let sets = self.sets.share()?.joined(fresh)?.settled(&self.names);
         Ok(Index::of(self.version, self.names.share()?, sets))
     }
 

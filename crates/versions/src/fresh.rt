@@ -15,6 +15,10 @@ use std::thread::{Threads, join};
 /// long as to analyse some hundredth of that.
 const PART: usize = 131_072;
 
+/// So many bytes are analysed at once, which takes some five times as much memory beside: more in parts, one after the other, each of
+/// which becomes a segment. Merges would have the more to do the less this is.
+const AT_ONCE: usize = 16_777_216;
+
 /// Bodies of so many bytes together are analysed by marks. To make them takes as long as to analyse some tenth of that.
 const MANY: usize = 262_144;
 
@@ -33,7 +37,9 @@ pub(crate) fn fresh_sets<R: Threads + Sync>(
     ensures { IfOk result (λ sets. AreAnalysed first (first + count) (unnamed contents.now) sets) }
 {
     let places = places(alloc, contents, first, count)?;
-    let parts = (bytes_of(contents, &places) / PART).min(threads);
+    let parts = (bytes_of(contents, &places) / PART)
+        .min(threads)
+        .min(contents.len());
     sets_of(rt, alloc, parts, contents, first, &places)
 }
 
@@ -54,8 +60,7 @@ fn sets_of<R: Threads + Sync>(
     ensures { IfOk result (λ sets. AreAnalysed first (first + length places.now) (unnamed contents.now) sets) }
 {
     if parts < 2 {
-        let segment = segment_of(alloc, contents, first, places)?;
-        return Sets::new(alloc).with(segment);
+        return segments_of(alloc, contents, first, places);
     }
     let low = parts / 2;
     let high = parts - low;
@@ -72,6 +77,51 @@ fn sets_of<R: Threads + Sync>(
     { sets_of(rt, alloc, high, contents, next, back) };
     let (found, rest) = join(rt, one, other);
     found?.joined(rest?)
+}
+
+/// Segments of the contents at these places, by rising numbers, one after the other. There is one if they are not too many bytes and
+/// memory suffices. Otherwise the places are halved.
+#[cycle(segments_of)]
+fn segments_of(
+    alloc: Global,
+    contents: &[&Content],
+    first: usize,
+    places: &[Option<usize>],
+) -> Result<Sets, AllocError>
+    requires few { first + length places.now ≤ 2 ^ 32 }
+    requires places { ArePlaces first (length places.now) (unnamed contents.now) (length contents.now) places.now }
+    requires tell { NumbersTell (unnamed contents.now) }
+    ensures { IfOk result (λ sets. AreAnalysed first (first + length places.now) (unnamed contents.now) sets) }
+{
+    if places.len() < 2 {
+        return one_segment(alloc, contents, first, places);
+    }
+    if bytes_of(contents, places) <= AT_ONCE {
+        if let Ok(sets) = one_segment(alloc, contents, first, places) {
+            return Ok(sets);
+        }
+    }
+    let at = places.len() / 2;
+    let (front, back) = halves(contents, first, places, at);
+    let found = segments_of(alloc, contents, first, front)?;
+    let rest = segments_of(alloc, contents, first + at, back)?;
+    found.joined(rest)
+}
+
+/// One segment of the contents at these places.
+fn one_segment(
+    alloc: Global,
+    contents: &[&Content],
+    first: usize,
+    places: &[Option<usize>],
+) -> Result<Sets, AllocError>
+    requires few { first + length places.now ≤ 2 ^ 32 }
+    requires places { ArePlaces first (length places.now) (unnamed contents.now) (length contents.now) places.now }
+    requires tell { NumbersTell (unnamed contents.now) }
+    ensures { IfOk result (λ sets. AreAnalysed first (first + length places.now) (unnamed contents.now) sets) }
+{
+    let segment = segment_of(alloc, contents, first, places)?;
+    Sets::new(alloc).with(segment)
 }
 
 /// The places before this one, and the others.

@@ -28,17 +28,19 @@ pub(crate) fn gather<W: Watch>(
 {
     let mut pace = Pace::each(PACE);
     let mut documents = Vec::new(alloc);
+    let mut text = Vec::new(alloc);
     for one in named {
         pace.look(watch)?;
-        add(alloc, &mut documents, one, prefixes, most)?;
+        add(alloc, &mut documents, &mut text, one, prefixes, most)?;
     }
     Ok(documents)
 }
 
-/// Adds a document, if its name begins with one of the prefixes and fewer than `most` are there.
+/// Adds a document, if its name begins with one of the prefixes and fewer than `most` are there. The text is room for its name.
 fn add(
     alloc: Global,
     documents: &mut Vec<SharedDocument>,
+    text: &mut Vec<u8>,
     named: &Named<'_>,
     prefixes: &Prefixes,
     most: usize,
@@ -48,7 +50,8 @@ fn add(
     if documents.len() >= most {
         return Ok(());
     }
-    let mut text = Vec::from_slice(alloc, named.beginning)?;
+    text.clear();
+    text.extend_from_slice(named.beginning)?;
     text.extend_from_slice(named.rest)?;
     if !prefixes.have(text.as_slice()) {
         return Ok(());

@@ -15,14 +15,18 @@ use std::sync::Arc;
 /// So many segments of a class become one.
 const FAN: u32 = 8;
 
-/// How many contents without a name may be in the segments beside as many as have one.
+/// How many contents without a name may be in the segments beside as many as there are names.
 const SPARE: usize = 1_024;
 
-/// How many of the last segments are to become one: those of a class and of lower ones, if the class has `FAN`; all, if more than half of
-/// their contents have no name. `names` is how many names there are. A class has segments of up to eight times as many contents as the
-/// one below. No contract depends on it.
-pub(crate) fn due(segments: &[Arc<Segment>], names: usize) -> usize {
-    if count_of(segments) > names.saturating_mul(2).saturating_add(SPARE) {
+/// How many pairs of a content and a trigram may be in the segments beside two for each byte of a body. A body has no more trigrams than
+/// bytes.
+const SPARE_PAIRS: u64 = 1_048_576;
+
+/// How many of the last segments are to become one: those of a class and of lower ones, if the class has `FAN`; all, if they have far
+/// more contents or trigrams than the names' bodies can have. A class has segments of up to eight times as many contents as the one
+/// below. No contract depends on it.
+pub(crate) fn due(segments: &[Arc<Segment>], names: &Names) -> usize {
+    if has_much_spare(segments, names) {
         return segments.len();
     }
     let (mut due, mut class, mut count) = (0, 0, 0u32);
@@ -42,13 +46,15 @@ pub(crate) fn due(segments: &[Arc<Segment>], names: usize) -> usize {
     due
 }
 
-/// How many contents the segments have.
-fn count_of(segments: &[Arc<Segment>]) -> usize {
-    let mut contents: usize = 0;
+/// Whether the segments have far more contents than there are names, or far more trigrams than their bodies have bytes.
+fn has_much_spare(segments: &[Arc<Segment>], names: &Names) -> bool {
+    let (mut contents, mut pairs): (usize, u64) = (0, 0);
     for segment in segments {
         contents = contents.saturating_add(segment.len());
+        pairs = pairs.saturating_add(segment.pairs());
     }
-    contents
+    contents > names.len().saturating_mul(2).saturating_add(SPARE)
+        || pairs > names.bytes().saturating_mul(2).saturating_add(SPARE_PAIRS)
 }
 
 /// The class of a segment with so many contents: one more for eight times as many.

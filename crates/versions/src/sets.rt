@@ -52,19 +52,22 @@ impl Sets {
         Sets { segments }
     }
 
-    /// The segments, of which the last ones become one if that is due: contents that none of these names has go then. An `Err` means
-    /// that memory ran out, or that a segment has too many handles.
-    pub(crate) fn settled(self, names: &Names) -> Result<Sets, AllocError>
+    /// The segments, of which the last ones become one if that is due, and memory suffices: contents that none of these names has go
+    /// then.
+    pub(crate) fn settled(self, names: &Names) -> Sets
         requires differ { AllDiffer self }
-        ensures { IfOk result (λ sets. KeepsNamed names.now self sets) }
+        ensures { KeepsNamed names.now self result }
     {
-        let due = due(&self.segments, names.len());
-        if due < 2 {
-            return Ok(self);
+        let due = due(&self.segments, names);
+        if due == 0 {
+            return self;
         }
         let at = self.segments.len().saturating_sub(due);
         let (old, new) = self.segments.split_at(at);
-        merged(self.allocator(), old, new, names)
+        match merged(self.allocator(), old, new, names) {
+            Ok(sets) => sets,
+            Err(_) => self,
+        }
     }
 
     /// Where its memory comes from.

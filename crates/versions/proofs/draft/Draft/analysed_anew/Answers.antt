@@ -16,8 +16,8 @@ fresh_sets-requires g c = (
   ),
 )
 
-pub settled-requires : goal.settled-requires
-settled-requires g c = record {
+pub settled-sets-requires : goal.settled-sets-requires
+settled-sets-requires g c = record {
   differ =
       (whole_made c.self.inside.version c.self.inside.analysed (c.self.inside.version - c.self.inside.analysed) c.self.inside.names c.self.inside.names
       c.self.inside.sets c.in_ok-fresh.fresh c.in_ok-joined.field-0 c.deref.result.now c.self.invariant.is (ap contents_of c.deref.ensures.value ∙ c.in_ok-contents.ensures)
@@ -29,10 +29,10 @@ pub of-requires : goal.of-requires
 of-requires g c = record {
   whole =
       settled_made c.self.inside.version c.self.inside.analysed (c.self.inside.version - c.self.inside.analysed) c.self.inside.names c.in_ok-share-2.field-0
-      c.self.inside.sets c.in_ok-fresh.fresh c.in_ok-joined.field-0 c.in_ok-sets.sets c.deref.result.now c.self.invariant.is
+      c.self.inside.sets c.in_ok-fresh.fresh c.in_ok-joined.field-0 c.settled-sets.result c.deref.result.now c.self.invariant.is
       (ap contents_of c.deref.ensures.value ∙ c.in_ok-contents.ensures)
       (let most = c.self.invariant.is.order in omega (arith, most)) c.in_ok-fresh.ensures
-      (c.in_ok-joined.ensures ∙ ap (λ x. x ++ c.in_ok-fresh.fresh) c.in_ok-share.ensures) c.in_ok-sets.ensures c.in_ok-share-2.ensures;
+      (c.in_ok-joined.ensures ∙ ap (λ x. x ++ c.in_ok-fresh.fresh) c.in_ok-share.ensures) c.settled-sets.ensures c.in_ok-share-2.ensures;
   few = same_few c.self.inside.names c.in_ok-share-2.field-0 c.in_ok-share-2.ensures c.self.invariant.few;
 }
 

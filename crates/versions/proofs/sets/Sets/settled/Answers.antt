@@ -1,5 +1,5 @@
 use Rattle.std.proofs.Common.{◌≡◌, ◌++◌, ◌∙◌, subst, sym, refl}
-use Rattle.std.proofs.lemmas.Result.{IfOk-weaker}
+use Rattle.std.specs.Prelude.{IfOk}
 use Rattle.segments.specs.Contents.{AllDiffer}
 use Rattle.versions.specs.Private.Version.{said}
 use Rattle.versions.specs.Private.Merging.{KeepsNamed}
@@ -14,14 +14,17 @@ parts c =
     c.split_at.ensures.front c.split_at.ensures.back
     ∙ c.self.view_is
 
-pub returns-then-due-lt2 : goal.returns-then-due-lt2
-returns-then-due-lt2 c = keeps_all c.args.names.now c.args.self c.args.self c.requires.differ refl
+pub returns-then-due-eq0 : goal.returns-then-due-eq0
+returns-then-due-eq0 c = keeps_all c.args.names.now c.args.self c.args.self c.requires.differ refl
 
 pub merged-requires : goal.merged-requires
 merged-requires c = record { differ = subst AllDiffer (sym (parts (goal.at.merged-requires c).After-split_at)) c.requires.differ }
 
-pub returns : goal.returns
-returns c =
+pub returns-in-Ok : goal.returns-in-Ok
+returns-in-Ok c =
     let all = said c.split_at.result.0.now ++ said c.split_at.result.1.now in
-    IfOk-weaker c.merged.result (KeepsNamed c.args.names.now all) (KeepsNamed c.args.names.now c.args.self)
-    (λ sets keeps. subst (λ x. KeepsNamed c.args.names.now x sets) (parts (goal.at.returns c).After-split_at) keeps) c.merged.ensures
+    subst (λ x. KeepsNamed c.args.names.now x c.in-Ok.sets) (parts (goal.at.returns-in-Ok c).After-split_at)
+    (subst (λ r. IfOk r (KeepsNamed c.args.names.now all)) c.in-Ok.is c.merged.ensures)
+
+pub returns-in-Err : goal.returns-in-Err
+returns-in-Err c = keeps_all c.args.names.now c.args.self c.args.self c.requires.differ refl
