@@ -27,6 +27,7 @@ pub(crate) fn joined(
 {
     let targets = all_targets(alloc, segments, numbers)?;
     let trigrams = all_trigrams(alloc, segments)?;
+    let mut nexts = Vec::from_elem(alloc, 0, segments.len())?;
     let mut read = Vec::new(alloc);
     let mut places = Vec::new(alloc);
     let mut whole = Laying::new(alloc, numbers.len());
@@ -35,6 +36,7 @@ pub(crate) fn joined(
             segments,
             targets.as_slice(),
             *trigram,
+            nexts.as_mut_slice(),
             &mut read,
             &mut places,
         )?;
@@ -75,11 +77,13 @@ fn all_trigrams(alloc: Global, segments: &[&Segment]) -> Result<Vec<u32>, AllocE
     Ok(trigrams)
 }
 
-/// Puts into `places` the targets of the contents that have the trigram. What `read` has does not matter.
+/// Puts into `places` the targets of the contents that have the trigram. What `read` has does not matter, nor do `nexts`, one for each
+/// segment, by which it is quick for one trigram after the other in their order.
 fn find_places(
     segments: &[&Segment],
     targets: &[Option<u32>],
     trigram: u32,
+    nexts: &mut [usize],
     read: &mut Vec<u32>,
     places: &mut Vec<u32>,
 ) -> Result<(), AllocError>
@@ -88,12 +92,23 @@ fn find_places(
 {
     places.clear();
     let mut start = 0;
+    let mut own: usize = 0;
     for segment in segments {
         let end = start + segment.len();
-        segment.push_places(trigram, &targets[start..end], read, places)?;
+        let mut next = nexts.get(own).copied().unwrap_or(0);
+        segment.push_places(trigram, &targets[start..end], &mut next, read, places)?;
+        set_next(nexts, own, next);
+        own = own.saturating_add(1);
         start = end;
     }
     Ok(())
+}
+
+/// Writes the number of the set that a segment is asked for next.
+fn set_next(nexts: &mut [usize], own: usize, next: usize) {
+    if own < nexts.len() {
+        nexts[own] = next;
+    }
 }
 
 /// Adds the targets of the places, where there are any.

@@ -71,11 +71,12 @@ impl Segment {
     }
 
     /// Adds the targets of the contents that have the trigram. There is one target, or none, for each content. What `read` has
-    /// does not matter.
+    /// does not matter, nor does `next`, by which it is quick for one trigram after the other in their order.
     pub(crate) fn push_places(
         &self,
         trigram: u32,
         targets: &[Option<u32>],
+        next: &mut usize,
         read: &mut Vec<u32>,
         places: &mut Vec<u32>,
     ) -> Result<(), AllocError>
@@ -83,7 +84,7 @@ impl Segment {
         ensures { OnOk result (AddsPlaces trigram targets.now self.now places.old.items places.new.items) }
     {
         read.clear();
-        self.table.places_with(trigram).push_to(read)?;
+        self.table.places_near(trigram, next).push_to(read)?;
         push_targets(read.as_slice(), targets, places)
     }
 

@@ -1,8 +1,9 @@
 //! Sets of places, one for each trigram of a list.
 
-ghost use Rattle.std.specs.Prelude.{◌≡◌, ◌<◌, ◌≤◌, ◌++◌, OnOk, length, slice_index};
+ghost use Rattle.std.specs.Prelude.{◌≡◌, true, ◌<◌, ◌≤◌, ◌++◌, OnOk, length, slice_index};
 ghost use Rattle.std.specs.List.{slice_range};
-ghost use Rattle.segments.specs.Private.Table.{places_of, trigrams_of, places_in_all, begin_at, sets_from, IsCountedTable};
+ghost use Rattle.std.specs.List.Sorted.{IsStrictlyIncreasing};
+ghost use Rattle.segments.specs.Private.Table.{places_of, trigrams_of, places_in_all, begin_at, sets_from, IsCountedTable, IsSought, IsFirstNotBelow};
 
 use crate::places::Places;
 use query::Trigram;
@@ -77,21 +78,53 @@ impl Table {
     pub(crate) fn places(&self, trigram: Trigram) -> Places<'_>
         ensures { result ≡ places_of self.now trigram }
     {
-        self.places_with(trigram.number())
+        self.places_near(trigram.number(), &mut 0)
     }
 
-    /// The places of the set with this trigram.
-    pub(crate) fn places_with(&self, trigram: u32) -> Places<'_>
+    /// The places of the set with this trigram. It is looked for first as the set with the number `next`, which then is that of the set
+    /// behind it: so who asks for one trigram after the other in their order has each at once.
+    pub(crate) fn places_near(&self, trigram: u32, next: &mut usize) -> Places<'_>
         ensures { result ≡ places_of self.now trigram }
     {
-        match self.trigrams.as_slice().binary_search(&trigram) {
-            Ok(place) => Places::new(
-                self.count,
-                part(self.ends.as_slice(), self.bytes.as_slice(), place),
-            ),
-            Err(_) => Places::new(self.count, &[]),
+        match sought(self.trigrams.as_slice(), trigram, *next) {
+            Ok(place) => {
+                *next = place.saturating_add(1);
+                Places::new(
+                    self.count,
+                    part(self.ends.as_slice(), self.bytes.as_slice(), place),
+                )
+            }
+            Err(place) => {
+                *next = place;
+                Places::new(self.count, &[])
+            }
         }
     }
+}
+
+/// Where the number is among these, which rise, or where it would be. It is looked for at the first place that is given before others.
+fn sought(numbers: &[u32], number: u32, first: usize) -> Result<usize, usize>
+    requires { IsStrictlyIncreasing numbers.now }
+    ensures { IsSought numbers.now number result }
+{
+    if !is_there(numbers, number, first) {
+        return numbers.binary_search(&number);
+    }
+    if numbers[first] == number {
+        return Ok(first);
+    }
+    Err(first)
+}
+
+/// Whether the number is at this place among these, which rise, or would be.
+fn is_there(numbers: &[u32], number: u32, place: usize) -> bool
+    requires { IsStrictlyIncreasing numbers.now }
+    ensures { result ≡ true → IsFirstNotBelow numbers.now number place }
+{
+    if place >= numbers.len() || numbers[place] < number {
+        return false;
+    }
+    place == 0 || numbers[place - 1] < number
 }
 
 /// The bytes of the set with this number.

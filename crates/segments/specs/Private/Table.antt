@@ -1,5 +1,5 @@
 -- How sets of places lie in memory: the trigram of each set, where its bytes end among all bytes, and the bytes.
-use Rattle.std.specs.Prelude.{◌≡◌, ℕ, zero, suc, ◌≤◌, if◌then◌else◌, ◌==◌, List, [], ◌∷◌, map, length, min, slice_index}
+use Rattle.std.specs.Prelude.{◌≡◌, ℕ, zero, suc, ◌≤◌, ◌<◌, Result, MatchResult, if◌then◌else◌, ◌==◌, List, [], ◌∷◌, map, length, min, slice_index}
 use Rattle.std.specs.List.{slice_range, sum_by}
 use Rattle.std.specs.List.Sorted.{IsStrictlyIncreasing}
 use Rattle.segments.specs.Private.PlaceBytes.{places_in, IsPlaceBytes}
@@ -25,6 +25,17 @@ unfoldable pub sets_from : ℕ → ℕ → List ℕ → List ℕ → List ℕ �
 sets_from count from [] ends bytes = []
 sets_from count from (t ∷ ts) [] bytes = []
 sets_from count from (t ∷ ts) (e ∷ es) bytes = place_set t (places_in count (slice_range bytes from e)) ∷ sets_from count e ts es bytes
+
+-- where the number is among these, which rise, or where it would be
+abbrev pub IsSought : List ℕ → ℕ → Result ℕ ℕ → Type 0
+IsSought numbers number sought =
+    MatchResult sought (λ i. (i < length numbers) × (slice_index numbers i ≡ number))
+    (λ i. (i ≤ length numbers) × ((k : ℕ) → k < i → slice_index numbers k < number) × ((k : ℕ) → i ≤ k → k < length numbers → number < slice_index numbers k))
+
+-- the first of the numbers that is not below this one is at the place
+abbrev pub IsFirstNotBelow : List ℕ → ℕ → ℕ → Type 0
+IsFirstNotBelow numbers number place =
+    (place < length numbers) × (number ≤ slice_index numbers place) × ((k : ℕ) → k < place → slice_index numbers k < number)
 
 -- the last end
 unfoldable pub last_end : ℕ → List ℕ → ℕ

@@ -11,7 +11,7 @@ use Rattle.segments.proofs.segment.Segment.push_places.Goals.{After-as_slice}
 -- the places that were read
 read_are : (c : After-as_slice) → c.as_slice.result.now ≡ places_of c.self.inside.table c.args.trigram
 read_are c =
-    c.as_slice.ensures.value ∙ c.in_ok-push_to.ensures ∙ ap (λ ps. ps ++ c.places_with.result) c.clear.ensures.items ∙ c.places_with.ensures
+    c.as_slice.ensures.value ∙ c.in_ok-push_to.ensures ∙ ap (λ ps. ps ++ c.places_near.result) c.clear.ensures.items ∙ c.places_near.ensures
 
 pub push_targets-requires : goal.push_targets-requires
 push_targets-requires c =
