@@ -13,3 +13,4 @@ pub mod NamedLemmas
 pub mod PutLemmas
 pub mod NumberLemmas
 pub mod LongLemmas
+pub mod ChosenLemmas

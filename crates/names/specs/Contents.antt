@@ -1,12 +1,12 @@
 -- A map from names to contents, as a value.
-use Rattle.std.specs.Prelude.{ℕ, Bool, ◌==◌, ◌&&◌, nat_le, nat_lt, List, ◌++◌, map, filter, length, refl}
+use Rattle.std.specs.Prelude.{ℕ, Bool, ◌==◌, ◌&&◌, nat_le, nat_lt, List, ◌++◌, map, filter, length, take, refl}
 use Rattle.std.specs.Borrow.{Bor}
 use Rattle.std.specs.List.{fold, list_any, sum_by}
 use Rattle.std.specs.Coded.{Coded, code_by, coded×, coded_ℕ, coded_list}
 use Rattle.std.specs.FinMap.{FinMap, entries, insert, keys, values, code}
 use Rattle.std.specs.Ordering.{nat_cmp}
 use Rattle.std.specs.Cmp.Lexicographic.{slice_cmp}
-use Rattle.prefixes.specs.Under.{begins_with}
+use Rattle.prefixes.specs.Under.{begins_with, is_under_one}
 use Rattle.documents.specs.Documents.{renamed}
 use Rattle.names.specs.declared.content.Content.{Content}
 use Rattle.names.specs.declared.content.Named.{Named}
@@ -75,6 +75,14 @@ has_one_of numbers e = is_one_of numbers e.1.number
 -- the entries whose contents have one of these numbers, in the order of their names
 abbrev pub chosen : List ℕ → Contents → List (List ℕ × Content)
 chosen numbers contents = filter (has_one_of numbers) (entries contents)
+
+-- whether the entry's name begins with one of these texts
+abbrev pub is_under : List (List ℕ) → (List ℕ × Content) → Bool
+is_under texts e = is_under_one texts e.0
+
+-- the first of the entries whose names begin with one of these texts: all, or so many
+abbrev pub first_under : ℕ → List (List ℕ) → List (List ℕ × Content) → List (List ℕ × Content)
+first_under most texts es = take most (filter (is_under texts) es)
 
 -- what a put's name is to stand for
 abbrev pub content_put : Put → Content

@@ -1,20 +1,23 @@
 //! Some names and their contents, which never change.
 
-ghost use Rattle.std.specs.Prelude.{◌≡◌, ◌<◌, ◌≤◌, ◌++◌, map, filter, length, get_or, take, drop, IfOk, OnOk, IfSome};
+ghost use Rattle.std.specs.Prelude.{◌≡◌, ◌<◌, ◌≤◌, ◌++◌, ℕ, true, map, filter, length, get_or, take, drop, IfOk, OnOk, IfSome};
 ghost use Rattle.std.specs.List.{list_any};
 ghost use Rattle.std.specs.List.Sorted.{IsStrictlyIncreasing};
 ghost use Rattle.std.specs.Ordering.{nat_cmp};
 ghost use Rattle.std.specs.Cmp.Lexicographic.{slice_cmp};
 ghost use Rattle.std.specs.Arc.{arc_slice_items};
-ghost use Rattle.prefixes.specs.Under.{begins_with};
+ghost use Rattle.prefixes.specs.Under.{begins_with, is_under_one};
 ghost use Rattle.names.specs.Contents.{entry_of, entries_of, contents_of, is_since, has_one_of, is_long_copy};
 ghost use Rattle.names.specs.Private.Entries.{Entry, begun, entries_bytes, with_prefix, is_before, passes, Falls, CutsAt, IsLastPass, LieWithin};
+ghost use Rattle.names.specs.Private.Counted.{Counts};
 
+use crate::chosen::Chosen;
 use crate::content::{Content, Named};
 use crate::draft::Draft;
 use crate::edge::Edge;
 use crate::numbers::{between, is_among};
 use crate::texts::Texts;
+use crate::under::Under;
 use std::alloc::{AllocError, Global};
 use std::cmp::Ordering;
 use std::marker::Model;
@@ -224,26 +227,37 @@ impl Chunk {
         between(numbers, oldest, newest)
     }
 
-    /// Adds the entries whose contents have one of these numbers, which rise. An `Err` means that memory ran out.
-    pub(crate) fn push_chosen<'a>(
+    /// Counts the entries whose contents have one of these numbers, which rise, and names those of them that are asked for. An `Err`
+    /// means that memory ran out.
+    pub(crate) fn choose<'a>(
         &'a self,
         numbers: &[u32],
-        found: &mut Vec<Named<'a>>,
+        most: usize,
+        under: &mut Under<'_>,
+        chosen: &mut Chosen<'a>,
     ) -> Result<(), AllocError>
         requires { IsStrictlyIncreasing numbers.now }
-        ensures { OnOk result (entries_of found.new.items ≡ entries_of found.old.items ++ filter (has_one_of numbers.now) self.now) }
+        ensures same { under.new ≡ under.old }
+        ensures counts { OnOk result (Counts under.old most (filter (has_one_of numbers.now) self.now) chosen.old chosen.new) }
     {
         if numbers.is_empty() {
             return Ok(());
         }
+        let known = self.is_under(under);
         for at in 0..self.len() {
-            let named = self.named(at);
-            if !is_among(numbers, named.content.number) {
+            if !is_among(numbers, self.content(at).number) {
                 continue;
             }
-            found.push(named)?;
+            chosen.add(self.named(at), most, known, under)?;
         }
         Ok(())
+    }
+
+    /// Whether all names are known to begin with one of the prefixes.
+    fn is_under(&self, under: &Under<'_>) -> bool
+        ensures { result ≡ true → (at : ℕ) (d : Entry) → at < length self.now → is_under_one under.now (get_or self.now at d).0 ≡ true }
+    {
+        under.has_all(self.prefix.as_slice())
     }
 
     /// Whether some name from one place on and before another one has more than `most` bytes with `to` in place of `from`, with which

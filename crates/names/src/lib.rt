@@ -2,6 +2,7 @@
 #![tactic(auto)]
 
 mod builder;
+mod chosen;
 mod chunk;
 mod content;
 mod draft;
@@ -11,7 +12,9 @@ mod numbers;
 mod puts;
 mod rest;
 mod texts;
+mod under;
 
+pub use chosen::Chosen;
 pub use content::{Content, Named};
 pub use names::Names;
 pub use puts::Put;

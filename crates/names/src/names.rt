@@ -1,6 +1,6 @@
 //! A map from names to contents.
 
-ghost use Rattle.std.specs.Prelude.{◌≡◌, ◌++◌, true, not, map, option_map, IfOk, IfErr};
+ghost use Rattle.std.specs.Prelude.{◌≡◌, ◌++◌, true, not, length, map, option_map, IfOk, IfErr};
 ghost use Rattle.std.specs.FinMap.{empty, entries, find, get, insert, remove, retain_keys, keys, len, from_entries, from_sorted, is_sorted};
 ghost use Rattle.std.specs.List.{list_any};
 ghost use Rattle.std.specs.Ordering.{nat_cmp};
@@ -8,15 +8,18 @@ ghost use Rattle.std.specs.Cmp.Lexicographic.{slice_cmp};
 ghost use Rattle.prefixes.specs.Under.{begins_with};
 ghost use Rattle.std.specs.List.Sorted.{IsStrictlyIncreasing};
 ghost use Rattle.watch.specs.CalledOff.{IsCalledOffOnlyIf};
-ghost use Rattle.names.specs.Contents.{body_bytes, chosen, contents_of, copies, entries_of, has_long_copy, since, with_all};
+ghost use Rattle.names.specs.Contents.{body_bytes, chosen, contents_of, copies, entries_of, first_under, has_long_copy, since, with_all};
 ghost use Rattle.names.specs.Private.Entries.{joined};
 
 use crate::builder::{Builder, open_at, over};
+use crate::chosen::Chosen;
 use crate::chunk::Chunk;
 use crate::content::{Content, Named};
 use crate::edge::Edge;
 use crate::puts::{Put, in_order};
 use crate::rest::Rest;
+use crate::under::Under;
+use prefixes::Prefixes;
 use std::alloc::{AllocError, Global};
 use std::marker::Model;
 use watch::{Pace, Unanswered, Watch};
@@ -134,26 +137,30 @@ impl Names {
         Ok(found)
     }
 
-    /// The names whose contents have one of these numbers, which rise, in order. Chunks of names with other numbers are passed by. An
-    /// `Err` means that memory ran out, or that `watch` called it off: it is asked at each 1,024 names that are looked at, or each 64
-    /// chunks that are passed by.
+    /// How many names have contents with one of these numbers, which rise, and the first of those that begin with one of the
+    /// prefixes: all, or `most` of them, in order. Chunks of names with other numbers are passed by. An `Err` means that memory ran
+    /// out, or that `watch` called it off: it is asked at each 1,024 names that are looked at, or each 64 chunks that are passed by.
     pub fn chosen<W: Watch>(
         &self,
         alloc: Global,
         numbers: &[u32],
+        prefixes: &Prefixes,
+        most: usize,
         watch: &mut W,
-    ) -> Result<Vec<Named<'_>>, Unanswered>
+    ) -> Result<Chosen<'_>, Unanswered>
         requires { IsStrictlyIncreasing numbers.now }
-        ensures found { IfOk result (λ found. entries_of found.items ≡ chosen numbers.now self.now) }
+        ensures count { IfOk result (λ found. found.count ≡ length (chosen numbers.now self.now)) }
+        ensures named { IfOk result (λ found. entries_of found.named.items ≡ first_under most prefixes.now (chosen numbers.now self.now)) }
         ensures called_off { IfErr result (IsCalledOffOnlyIf (W.has_said_no watch.new)) }
     {
         let mut pace = Pace::each(PACE);
-        let mut found = Vec::new(alloc);
+        let mut under = Under::new(alloc, prefixes);
+        let mut found = Chosen::none(alloc);
         for chunk in &self.chunks {
             let near = chunk.near(numbers);
             let steps = if near.is_empty() { PASSED } else { chunk.len() };
             pace.look_after(steps, watch)?;
-            chunk.push_chosen(near, &mut found)?;
+            chunk.choose(near, most, &mut under, &mut found)?;
         }
         Ok(found)
     }
