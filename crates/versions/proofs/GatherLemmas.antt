@@ -1,11 +1,10 @@
 -- The documents that have some contents.
-use Rattle.std.proofs.Common.{◌≡◌, ℕ, ◌+◌, ◌<◌, ◌≤◌, ◌^◌, ◌&&◌, Bool, true, false, cond, List, [], ◌∷◌, ◌++◌, map, length, take, get_or, Contains, refl, sym, ◌∙◌, ap, subst, arith, append_assoc}
-use Rattle.std.specs.Prelude.{filter, nat_lt, not}
+use Rattle.std.proofs.Common.{◌≡◌, ℕ, ◌+◌, ◌<◌, ◌≤◌, ◌^◌, ◌&&◌, Bool, true, false, cond, List, [], ◌∷◌, ◌++◌, map, length, take, drop, get_or, Contains, refl, sym, ◌∙◌, ap, subst, arith}
+use Rattle.std.specs.Prelude.{filter, not}
 use Rattle.std.specs.FinMap.{entries, len, len-entries}
-use Rattle.std.proofs.lemmas.Bool.Decides.{nat_tests}
-use Rattle.std.proofs.lemmas.List.{get_or-map, take_more, length-map, map-append, map_push, append-nil}
-use Rattle.std.proofs.Math.Bool.{and-false}
-use Rattle.std.proofs.lemmas.List.Elements.{filter-append, Contains-append_left, Contains-get_or}
+use Rattle.std.proofs.Math.ListN.{drop_of_length-le}
+use Rattle.std.proofs.lemmas.List.{take_more, take-append-drop, length-take, length-map, map-append, map_push}
+use Rattle.std.proofs.lemmas.List.Elements.{Contains-append_left, Contains-get_or}
 use Rattle.std.proofs.lemmas.List.Filters.{length-filter_both}
 use Rattle.query.specs.Query.{Formula}
 use Rattle.prefixes.specs.Under.{is_under_one}
@@ -18,56 +17,18 @@ use Rattle.names.specs.declared.content.Named.{Named}
 use Rattle.names.specs.Contents.{Contents, entry_of, entries_of}
 use Rattle.segments.specs.Contents.{Content as Trigrams, has, selected}
 use Rattle.versions.specs.Private.Version.{Entry, plain, bodies_of, IsVersion}
-use Rattle.versions.specs.Private.Gathered.{shared_entry, shared_entries, is_chosen, is_wanted, AreFirstEntries, AreFirstUnder, only_if, Adds, AreGathered}
+use Rattle.versions.specs.Private.Gathered.{shared_entry, shared_entries, is_chosen, is_wanted, AreFirstEntries, AreGathered}
 use Rattle.versions.proofs.BodyLemmas.{entries-bodies, entry_found}
 use Rattle.versions.proofs.SaidLemmas.{selected_is}
 
--- ---- one entry more
+-- ---- the first entries
 
-first_next : (most : ℕ) (all first : List Entry) (e : Entry) (t : Bool) → AreFirstEntries most all first
-    → AreFirstEntries most (all ++ only_if t e) (first ++ only_if (nat_lt (length first) most && t) e)
-first_next most all first e t is = go t (nat_lt (length first) most) refl
-  where
-    go : (t less : Bool) → nat_lt (length first) most ≡ less → AreFirstEntries most (all ++ only_if t e) (first ++ only_if (less && t) e)
-    go false true lt = subst (AreFirstEntries most (all ++ [])) (sym (append-nil first)) (subst (λ xs. AreFirstEntries most xs first) (sym (append-nil all)) is)
-    go false false lt = subst (AreFirstEntries most (all ++ [])) (sym (append-nil first)) (subst (λ xs. AreFirstEntries most xs first) (sym (append-nil all)) is)
-    go true true lt =
-        let fewer : length first < most = grind (arith, nat_tests) in
-        let whole : first ≡ all = sym (append-nil first) ∙ (ap (λ xs. first ++ xs) (sym (is.all_or_most fewer)) ∙ is.whole) in
-        record {
-          others = [];
-          whole = append-nil (first ++ e ∷ []) ∙ ap (λ xs. xs ++ e ∷ []) whole;
-          all_or_most = λ _. refl;
-        }
-    go true false lt =
-        let enough : most ≤ length first = grind (arith, nat_tests) in
-        record {
-          others = is.others ++ e ∷ [];
-          whole = ap (λ xs. xs ++ (is.others ++ e ∷ [])) (append-nil first) ∙ (sym (append_assoc first is.others (e ∷ [])) ∙ ap (λ xs. xs ++ e ∷ []) is.whole);
-          all_or_most = λ fewer. absurd (let same = ap length (append-nil first) in omega (arith, fewer, enough, same));
-        }
-
-filter_next : (p : Entry → Bool) (es : List Entry) (at : ℕ) (d : Entry) → at < length es
-    → filter p (take (at + 1) es) ≡ filter p (take at es) ++ only_if (p (get_or es at d)) (get_or es at d)
-filter_next p es at d inside = ap (filter p) (take_more es at d inside) ∙ filter-append p (take at es) (get_or es at d ∷ [])
-
-pub gathered_none : (texts : List (List ℕ)) (most : ℕ) (es : List Entry) (documents : List SharedDocument) → documents ≡ []
-    → AreFirstUnder texts most (take 0 es) documents
-gathered_none texts most es documents none = record {
-  others = [];
-  whole = ap (λ ds. shared_entries ds ++ []) none;
-  all_or_most = λ _. refl;
+first_taken : (most : ℕ) (all first : List Entry) → first ≡ take most all → AreFirstEntries most all first
+first_taken most all first is = record {
+  others = drop most all;
+  whole = ap (λ xs. xs ++ drop most all) is ∙ take-append-drop most all;
+  all_or_most = λ fewer. drop_of_length-le all (let same = ap length is in let long = length-take most all in let e : length all ≤ most = omega (arith, fewer, same, long) in e);
 }
-
-pub gathered_more : (texts : List (List ℕ)) (most : ℕ) (es : List Entry) (at : ℕ) (old new : List SharedDocument) (e : Entry) → at < length es → e ≡ get_or es at e
-    → AreFirstUnder texts most (take at es) old → Adds texts most e old new → AreFirstUnder texts most (take (at + 1) es) new
-gathered_more texts most es at old new e inside e_is is adds =
-    let p : Entry → Bool = λ x. is_under_one texts x.0 in
-    subst (λ xs. AreFirstEntries most xs (shared_entries new))
-    (sym (filter_next p es at e inside ∙ ap (λ (x : Entry). filter p (take at es) ++ only_if (p x) x) (sym e_is)))
-    (subst (AreFirstEntries most (filter p (take at es) ++ only_if (p e) e))
-    (sym (adds ∙ ap (λ (n : ℕ). shared_entries old ++ only_if (nat_lt n most && p e) e) (sym (length-map old shared_entry))))
-    (first_next most (filter p (take at es)) (shared_entries old) e (p e) is))
 
 filter_both : (p q : Entry → Bool) (es : List Entry) → filter q (filter p es) ≡ filter (λ e. p e && q e) es
 filter_both p q [] = refl
@@ -79,13 +40,13 @@ filter_both p q (e ∷ es) = go (p e) (q e) (filter_both p q es)
     go false u rest = rest
 
 -- what is gathered of the names with these contents
-pub gathered_all : (numbers : List ℕ) (texts : List (List ℕ)) (most : ℕ) (es ns : List Entry) (found : Candidates) → ns ≡ filter (is_chosen numbers) es
-    → found.count ≡ length ns → AreFirstUnder texts most ns found.documents.items → AreGathered numbers texts most es found
-gathered_all numbers texts most es ns found are count first = record {
-  count = count ∙ ap length are;
+gathered_all : (numbers : List ℕ) (texts : List (List ℕ)) (most : ℕ) (es : List Entry) (found : Candidates) → found.count ≡ length (filter (is_chosen numbers) es)
+    → shared_entries found.documents.items ≡ take most (filter (λ e. is_under_one texts e.0) (filter (is_chosen numbers) es)) → AreGathered numbers texts most es found
+gathered_all numbers texts most es found count first = record {
+  count = count;
   first =
-      subst (λ xs. AreFirstEntries most xs (shared_entries found.documents.items))
-      (ap (filter (λ (e : Entry). is_under_one texts e.0)) are ∙ filter_both (is_chosen numbers) (λ e. is_under_one texts e.0) es) first;
+      first_taken most (filter (is_wanted numbers texts) es) (shared_entries found.documents.items)
+      (first ∙ ap (take most) (filter_both (is_chosen numbers) (λ e. is_under_one texts e.0) es));
 }
 
 -- ---- what a corpus promises
@@ -155,50 +116,33 @@ module _ (version analysed : ℕ) (contents : Contents) (all : List Trigrams) (i
     same = numbers_tell;
   }
 
--- ---- one document more, or not
+-- ---- what is found among the names
 
-pub adds_enough : (texts : List (List ℕ)) (most : ℕ) (e : Entry) (old : List SharedDocument) → most ≤ length old → Adds texts most e old old
-adds_enough texts most e old enough =
-    let no : nat_lt (length old) most ≡ false = grind (arith, nat_tests) in
-    sym (ap (λ (t : Bool). shared_entries old ++ only_if (t && is_under_one texts e.0) e) no ∙ append-nil (shared_entries old))
-
-pub adds_other : (texts : List (List ℕ)) (most : ℕ) (e : Entry) (old : List SharedDocument) → is_under_one texts e.0 ≡ false → Adds texts most e old old
-adds_other texts most e old other =
-    sym (ap (λ (t : Bool). shared_entries old ++ only_if t e) (ap (λ (t : Bool). nat_lt (length old) most && t) other ∙ and-false (nat_lt (length old) most))
-    ∙ append-nil (shared_entries old))
-
-pub adds_one : (texts : List (List ℕ)) (most : ℕ) (e : Entry) (old new : List SharedDocument) (d : SharedDocument) → length old < most
-    → is_under_one texts e.0 ≡ true → new ≡ old ++ d ∷ [] → d.name ≡ e.0 → d.number ≡ e.1.number → d.held ≡ e.1.held → Adds texts most e old new
-adds_one texts most e old new d fewer under new_is name number held =
-    let yes : nat_lt (length old) most ≡ true = grind (arith, nat_tests) in
-    ap shared_entries new_is
-    ∙ (map_push shared_entry old d
-    ∙ (ap (λ (x : Entry). shared_entries old ++ x ∷ []) same
-    ∙ sym (ap (λ (t : Bool). shared_entries old ++ only_if (t && is_under_one texts e.0) e) yes ∙ ap (λ (t : Bool). shared_entries old ++ only_if t e) under)))
-  where
-    same : shared_entry d ≡ e
-    same = λ i. (name i, record { number = number i; held = held i })
-
--- ---- what is found among the names that are given
-
-pub few_chosen : (numbers : List ℕ) (contents : Contents) (named : List Named) → entries_of named ≡ filter (is_chosen numbers) (entries contents)
-    → len contents < 2 ^ 32 → length named < 2 ^ 32
-few_chosen numbers contents named are few =
-    let long : length named ≡ length (filter (is_chosen numbers) (entries contents)) = sym (length-map named entry_of) ∙ ap length are in
+pub few_chosen : (numbers : List ℕ) (contents : Contents) (count : ℕ) → count ≡ length (filter (is_chosen numbers) (entries contents))
+    → len contents < 2 ^ 32 → count < 2 ^ 32
+few_chosen numbers contents count are few =
     let parts = length-filter_both (is_chosen numbers) (λ e. not (is_chosen numbers e)) (λ e. refl) (entries contents) in
-    let count = len-entries contents in
-    omega (arith, long, parts, count, few)
+    let all = len-entries contents in
+    omega (arith, are, parts, all, few)
 
 pub found_are : (version : ℕ) (contents : Contents) (all : List Trigrams) → IsVersion version version contents all → (formula : Formula)
-    (numbers ready : List ℕ) (texts : List (List ℕ)) (most : ℕ) (found : Candidates) (items given : List Named)
-    → ((n : ℕ) → has numbers n ≡ has (selected formula all) n) → ready ≡ numbers → entries_of items ≡ filter (is_chosen ready) (entries contents) → given ≡ items
-    → found.count ≡ length items → AreFirstUnder texts most (entries_of given) found.documents.items → AreCandidates formula texts most (bodies_of contents) found
-found_are version contents all is formula numbers ready texts most found items given chosen ready_is are same count first =
+    (numbers ready : List ℕ) (texts : List (List ℕ)) (most : ℕ) (found : Candidates)
+    → ((n : ℕ) → has numbers n ≡ has (selected formula all) n) → ready ≡ numbers → found.count ≡ length (filter (is_chosen ready) (entries contents))
+    → shared_entries found.documents.items ≡ take most (filter (λ e. is_under_one texts e.0) (filter (is_chosen ready) (entries contents)))
+    → AreCandidates formula texts most (bodies_of contents) found
+found_are version contents all is formula numbers ready texts most found chosen ready_is count first =
     candidates_are version version contents all is formula ready texts most found (omega arith)
     (λ n. ap (λ ns. has ns n) ready_is ∙ chosen n)
-    (gathered_all ready texts most (entries contents) (entries_of items) found are (count ∙ sym (length-map items entry_of))
-    (subst (λ (ns : List Named). AreFirstUnder texts most (entries_of ns) found.documents.items) same first))
+    (gathered_all ready texts most (entries contents) found count first)
 
-pub given_at : (entries : List Named) (place : ℕ) (n : Named) → place < length entries → n ≡ get_or entries place n
-    → entry_of n ≡ get_or (entries_of entries) place (entry_of n)
-given_at entries place n inside is = sym (get_or-map entry_of entries place n (entry_of n) inside ∙ ap entry_of (sym is))
+-- ---- one document more
+
+pub documents_next : (named : List Named) (at : ℕ) (n : Named) (old new : List SharedDocument) (d : SharedDocument) → at < length named → n ≡ get_or named at n
+    → shared_entries old ≡ entries_of (take at named) → shared_entry d ≡ entry_of n → new ≡ old ++ d ∷ []
+    → shared_entries new ≡ entries_of (take (at + 1) named)
+documents_next named at n old new d inside n_is are same new_is =
+    ap shared_entries new_is
+    ∙ (map_push shared_entry old d
+    ∙ (ap (λ (xs : List Entry). xs ++ shared_entry d ∷ []) are
+    ∙ (ap (λ (x : Entry). entries_of (take at named) ++ x ∷ []) (same ∙ ap entry_of n_is)
+    ∙ sym (ap entries_of (take_more named at n inside) ∙ map_push entry_of (take at named) (get_or named at n)))))

@@ -117,10 +117,12 @@ impl Corpus for Index {
         watch: &mut W,
     ) -> Result<Candidates, Unanswered> {
         let chosen = self.sets.select(alloc, query, watch)?;
-        let named = self.names.chosen(alloc, &chosen, watch)?;
-        let documents = gather(alloc, &named, prefixes, most, watch)?;
+        let found = self
+            .names
+            .chosen(alloc, &chosen, prefixes, most, watch)?;
+        let documents = gather(alloc, &found.named, watch)?;
         Ok(Candidates {
-            count: named.len() as u32,
+            count: found.count as u32,
             documents,
         })
     }

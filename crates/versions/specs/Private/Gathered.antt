@@ -1,5 +1,5 @@
 -- The documents that have some contents.
-use Rattle.std.specs.Prelude.{◌≡◌, ℕ, ◌<◌, ◌&&◌, nat_lt, cond, Bool, List, [], ◌∷◌, ◌++◌, map, filter, length}
+use Rattle.std.specs.Prelude.{◌≡◌, ℕ, ◌<◌, ◌&&◌, Bool, List, [], ◌++◌, map, filter, length}
 use Rattle.prefixes.specs.Under.{is_under_one}
 use Rattle.documents.specs.declared.document.SharedDocument.{SharedDocument}
 use Rattle.documents.specs.declared.document.Candidates.{Candidates}
@@ -26,18 +26,6 @@ pub record AreFirstEntries (most : ℕ) (all first : List Entry) : Type 0 where
   pub others : List Entry
   pub whole : first ++ others ≡ all
   pub all_or_most : length first < most → others ≡ []
-
--- They are the first of these entries whose names begin with one of the texts.
-abbrev pub AreFirstUnder : List (List ℕ) → ℕ → List Entry → List SharedDocument → Type 0
-AreFirstUnder texts most es documents = AreFirstEntries most (filter (λ e. is_under_one texts e.0) es) (shared_entries documents)
-
--- an entry alone, if the test says so
-abbrev pub only_if : Bool → Entry → List Entry
-only_if test e = cond test (e ∷ []) []
-
--- The entry is handed out too, if its name begins with one of the texts and there are fewer than `most`.
-abbrev pub Adds : List (List ℕ) → ℕ → Entry → List SharedDocument → List SharedDocument → Type 0
-Adds texts most e old new = shared_entries new ≡ shared_entries old ++ only_if (nat_lt (length old) most && is_under_one texts e.0) e
 
 -- the number of the entries with these contents, and the first of those under the texts
 pub record AreGathered (numbers : List ℕ) (texts : List (List ℕ)) (most : ℕ) (es : List Entry) (found : Candidates) : Type 0 where

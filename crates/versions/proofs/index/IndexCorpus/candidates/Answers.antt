@@ -1,8 +1,10 @@
-use Rattle.std.proofs.Common.{◌∙◌, sym, subst, arith}
+use Rattle.std.proofs.Common.{◌∙◌, ap, sym, subst, arith}
 use Rattle.std.specs.List.Sorted.{IsStrictlyIncreasing}
 use Rattle.query.specs.Query.{formula_of}
 use Rattle.documents.specs.State.{State}
+use Rattle.documents.specs.declared.document.Candidates.{Candidates}
 use Rattle.documents.specs.Shared.{AreCandidates}
+use Rattle.names.specs.Contents.{entries_of}
 use Rattle.versions.proofs.GatherLemmas.{found_are, few_chosen}
 use Rattle.versions.proofs.index.IndexCorpus.candidates.Goals as goal
 
@@ -11,18 +13,15 @@ chosen-requires g c = subst IsStrictlyIncreasing (sym c.deref.ensures.value) c.i
 
 pub overflow_cast-result : goal.overflow_cast-result
 overflow_cast-result g c =
-    let named = c.in_ok-named.named in
-    let few = few_chosen c.deref.result.now c.self.inside.names named.items c.in_ok-named.ensures.found c.self.invariant.few in
-    let count = c.len.ensures in
-    let ok = named.ok.0 in
-    omega (arith, few, count, ok)
+    let few = few_chosen c.deref.result.now c.self.inside.names c.in_ok-found.found.count c.in_ok-found.ensures.count c.self.invariant.few in
+    omega (arith, few)
 
 pub returns-clause-candidates : goal.returns-clause-candidates
 returns-clause-candidates g c =
     let formula = formula_of c.args.query.now in
     let texts = c.args.prefixes.now in
-    let named = c.in_ok-named.named in
-    subst (λ (s : State). AreCandidates formula texts c.args.most s.documents (record { count = c.len.result; documents = c.in_ok-documents.documents })) c.self.view_is
+    let found : Candidates = record { count = c.in_ok-found.found.count; documents = c.in_ok-documents.documents } in
+    subst (λ (s : State). AreCandidates formula texts c.args.most s.documents found) c.self.view_is
     (found_are c.self.inside.version c.self.inside.names c.self.inside.sets c.self.invariant.is formula c.in_ok-chosen.chosen.items c.deref.result.now
-    texts c.args.most (record { count = c.len.result; documents = c.in_ok-documents.documents }) named.items c.deref-2.result.now c.in_ok-chosen.ensures.chosen
-    c.deref.ensures.value c.in_ok-named.ensures.found c.deref-2.ensures.value (c.len.ensures ∙ named.ok.0) c.in_ok-documents.ensures.found)
+    texts c.args.most found c.in_ok-chosen.ensures.chosen c.deref.ensures.value c.in_ok-found.ensures.count
+    (c.in_ok-documents.ensures.found ∙ (ap entries_of c.deref-2.ensures.value ∙ c.in_ok-found.ensures.named)))
