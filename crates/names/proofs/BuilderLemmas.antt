@@ -6,11 +6,6 @@ use Rattle.names.specs.declared.content.Content.{Content}
 use Rattle.names.specs.Private.Entries.{Entry, begun, begun_within, joined, Falls, CutsAt, OpensAt}
 use Rattle.names.proofs.PartLemmas.{joined-push, joined_more, before_open, behind_open, begun_first, begun_second, falls_chunk}
 
-pub pushed_twice : (old rest first new : List (List Entry)) (last chunk : List Entry) → old ≡ rest ++ last ∷ [] → first ≡ rest ++ last ∷ [] → new ≡ first ++ chunk ∷ []
-    → joined new ≡ joined old ++ chunk
-pushed_twice old rest first new last chunk old_is first_is new_is =
-    ap joined new_is ∙ (joined-push first chunk ∙ ap (λ x. joined x ++ chunk) (first_is ∙ sym old_is))
-
 pub pushed_both : (old rest new : List (List Entry)) (last chunk both : List Entry) → old ≡ rest ++ last ∷ [] → both ≡ last ++ chunk → new ≡ rest ++ both ∷ []
     → joined new ≡ joined old ++ chunk
 pushed_both old rest new last chunk both old_is both_is new_is =

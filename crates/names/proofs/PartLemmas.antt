@@ -177,6 +177,16 @@ module _ (p : Entry → Bool) where
       go : (length es ≤ at → ⊥) → at < length es
       go never = omega (arith, never)
 
+  -- where the last entry passes, all do
+  pub all_before : (es : List Entry) (len : ℕ) → Falls p es → IsLastPass p es true → len ≡ length es → CutsAt p es len
+  all_before es len falls is len_is =
+      let all : AllPass p es = subst (AllPass p) (sym is.whole) (passes_to is.others is.last [] (subst (Falls p) is.whole falls) (sym is.passed)) in
+      record {
+        inside = omega (arith, len_is);
+        before = subst (AllPass p) (sym (take_all len es (omega (arith, len_is)))) all;
+        behind = subst (NonePass p) (sym (drop_all len es (omega (arith, len_is)))) tt;
+      }
+
 -- ---- searches by halves
 
 -- The edge lies between the two places.

@@ -147,6 +147,13 @@ impl Builder {
         Ok(())
     }
 
+    /// Takes memory for so many more chunks.
+    fn reserve(&mut self, more: usize) -> Result<(), AllocError>
+        ensures { OnOk result (self.new ≡ self.old) }
+    {
+        self.chunks.reserve(more)
+    }
+
     /// Adds the entries of these chunks that lie before the edge at a text.
     pub(crate) fn add_before(
         &mut self,
@@ -158,6 +165,7 @@ impl Builder {
         ensures { OnOk result (self.new ≡ self.old ++ filter (passes edge text.now) (joined chunks.now)) }
     {
         let open = open_at(chunks, edge, text);
+        self.reserve(chunks.len().saturating_add(2))?;
         self.add_all(&chunks[..open])?;
         if open == chunks.len() {
             return Ok(());
@@ -205,7 +213,7 @@ impl Builder {
         } = rest;
         while chunk < chunks.len() {
             let here = &chunks[chunk];
-            let to = here.place(edge, text).max(at);
+            let to = here.place_or_end(edge, text).max(at);
             self.add_part(here, at, to, count, beginning)?;
             if to < here.len() {
                 return Ok(Rest {
@@ -276,11 +284,11 @@ impl Builder {
     pub(crate) fn add_all(&mut self, chunks: &[Chunk]) -> Result<(), AllocError>
         ensures { OnOk result (self.new ≡ self.old ++ joined chunks.now) }
     {
-        for chunk in chunks {
-            let own = chunk.share()?;
-            self.add(own)?;
+        if chunks.is_empty() {
+            return Ok(());
         }
-        Ok(())
+        close(&mut self.chunks, &mut self.draft)?;
+        push_all(&mut self.chunks, chunks)
     }
 }
 
@@ -297,17 +305,40 @@ fn both(alloc: Global, one: &Chunk, other: &Chunk) -> Result<Chunk, AllocError>
 fn push(chunks: &mut Vec<Chunk>, chunk: Chunk, most: usize) -> Result<(), AllocError>
     ensures { OnOk result (joined chunks.new.items ≡ joined chunks.old.items ++ chunk) }
 {
+    if !has_room(chunks.as_slice(), chunk.len(), most) {
+        chunks.push(chunk)?;
+        return Ok(());
+    }
     let alloc = *chunks.allocator();
     let Some(last) = chunks.pop() else {
         chunks.push(chunk)?;
         return Ok(());
     };
-    if last.len().saturating_add(chunk.len()) > most {
-        chunks.push(last)?;
-        chunks.push(chunk)?;
-        return Ok(());
-    }
     chunks.push(both(alloc, &last, &chunk)?)?;
+    Ok(())
+}
+
+/// Whether the last of these chunks has at most `most` names together with so many more.
+fn has_room(chunks: &[Chunk], more: usize, most: usize) -> bool {
+    match chunks.last() {
+        Some(last) => last.len().saturating_add(more) <= most,
+        None => false,
+    }
+}
+
+/// Adds the entries of more chunks to these chunks. Only the first one is looked at whether it becomes one with the last of them:
+/// neighbours of a version have more names than that together.
+fn push_all(chunks: &mut Vec<Chunk>, more: &[Chunk]) -> Result<(), AllocError>
+    requires { 0 < length more.now }
+    ensures { OnOk result (joined chunks.new.items ≡ joined chunks.old.items ++ joined more.now) }
+{
+    push(chunks, more[0].share()?, FEW)?;
+    let rest = &more[1..];
+    chunks.reserve(rest.len())?;
+    for chunk in rest {
+        let own = chunk.share()?;
+        chunks.push(own)?;
+    }
     Ok(())
 }
 

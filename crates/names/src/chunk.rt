@@ -337,6 +337,17 @@ impl Chunk {
         }
         low
     }
+
+    /// The same, found in one step if all names lie before the edge.
+    pub(crate) fn place_or_end(&self, edge: Edge, text: &[u8]) -> usize
+        requires { Falls (passes edge text.now) self.now }
+        ensures { CutsAt (passes edge text.now) self.now result }
+    {
+        if self.last_is_before(edge, text) {
+            return self.len();
+        }
+        self.place(edge, text)
+    }
 }
 
 /// The least and the greatest number of these contents, if there are some.

@@ -133,7 +133,7 @@ impl<'a> Rest<'a> {
         } = self;
         while chunk < chunks.len() {
             let here = &chunks[chunk];
-            let end = here.place(Edge::AfterUnder, from).max(at);
+            let end = here.place_or_end(Edge::AfterUnder, from).max(at);
             if here.has_long_copy(at, end, from, to, most) {
                 return true;
             }

@@ -117,9 +117,7 @@ impl Corpus for Index {
         watch: &mut W,
     ) -> Result<Candidates, Unanswered> {
         let chosen = self.sets.select(alloc, query, watch)?;
-        let found = self
-            .names
-            .chosen(alloc, &chosen, prefixes, most, watch)?;
+        let found = self.names.chosen(alloc, &chosen, prefixes, most, watch)?;
         let documents = gather(alloc, &found.named, watch)?;
         Ok(Candidates {
             count: found.count as u32,

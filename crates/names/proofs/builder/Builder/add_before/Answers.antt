@@ -1,6 +1,6 @@
-use Rattle.std.proofs.Common.{◌<◌, ◌++◌, length, ap, sym, ◌∙◌, arith}
+use Rattle.std.proofs.Common.{◌<◌, ◌++◌, length, take, ap, sym, ◌∙◌, arith}
 use Rattle.std.proofs.lemmas.Result.{on_ok_weaker}
-use Rattle.names.specs.Private.Entries.{passes}
+use Rattle.names.specs.Private.Entries.{joined, passes}
 use Rattle.names.proofs.PartLemmas.{opens_at_end}
 use Rattle.names.proofs.BuilderLemmas.{chunk_falls, before_done}
 use Rattle.names.proofs.builder.Builder.add_before.Goals as goal
@@ -8,8 +8,9 @@ use Rattle.names.proofs.builder.Builder.add_before.Goals as goal
 pub returns-then-open-chunks : goal.returns-then-open-chunks
 returns-then-open-chunks c =
     c.in_ok-add_all.ensures
+    ∙ (ap (λ es. es ++ joined (take c.open_at-open.result c.args.chunks.now)) c.in_ok-reserve.ensures
     ∙ ap (λ rest. c.args.self.now ++ rest)
-    (sym (opens_at_end (passes c.args.edge c.args.text.now) c.args.chunks.now c.open_at-open.result c.open_at-open.ensures (omega arith)))
+    (sym (opens_at_end (passes c.args.edge c.args.text.now) c.args.chunks.now c.open_at-open.result c.open_at-open.ensures (omega arith))))
 
 pub place-requires : goal.place-requires
 place-requires c =
@@ -24,4 +25,4 @@ returns c =
     on_ok_weaker c.add_part.result (λ made.
     before_done (passes c.args.edge c.args.text.now) c.args.chunks.now c.open_at-open.result c.place.result c.index-chunks-open.result c.open_at-open.ensures inside
     c.index-chunks-open.is c.args.self.now c.add_all.new.self c.add_part.new.self c.place.ensures
-    c.in_ok-add_all.ensures made) c.add_part.ensures
+    (c.in_ok-add_all.ensures ∙ ap (λ es. es ++ joined (take c.open_at-open.result c.args.chunks.now)) c.in_ok-reserve.ensures) made) c.add_part.ensures

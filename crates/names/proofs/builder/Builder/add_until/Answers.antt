@@ -15,8 +15,8 @@ loop-chunk-init c = record {
   left = ap (filter (lies_behind c.args.edge c.args.text.now)) c.rest.view_is;
 }
 
-pub place-requires : goal.place-requires
-place-requires c =
+pub place_or_end-requires : goal.place_or_end-requires
+place_or_end-requires c =
     let p = passes c.args.edge c.args.text.now in
     let chunks = c.rest.inside.chunks.now in
     subst (Falls p) (sym c.index-chunks-chunk.is)
@@ -28,7 +28,7 @@ add_part-requires-clause-order c = let most = c.max-to.ensures in omega (arith, 
 pub add_part-requires-clause-inside : goal.add_part-requires-clause-inside
 add_part-requires-clause-inside c =
     let most = c.max-to.ensures in
-    let place = c.place.ensures.inside in
+    let place = c.place_or_end.ensures.inside in
     let within : c.loop-chunk.at ≤ length c.index-chunks-chunk.result =
     subst (λ xs. c.loop-chunk.at ≤ length xs)
     (get_or_default c.rest.inside.chunks.now c.loop-chunk.chunk [] c.index-chunks-chunk.result c.loop-chunk-test.true ∙ sym c.index-chunks-chunk.is)
@@ -51,8 +51,8 @@ returns-then-to-len-clause-added c =
     let within : c.loop-chunk.at ≤ length chunk =
     subst (λ xs. c.loop-chunk.at ≤ length xs) (get_or_default chunks c.loop-chunk.chunk [] chunk c.loop-chunk-test.true ∙ sym c.index-chunks-chunk.is)
     (c.loop-chunk.invariant.inside c.loop-chunk-test.true) in
-    stopped_added (passes c.args.edge c.args.text.now) chunks c.loop-chunk.chunk c.loop-chunk.at c.place.result c.max-to.result chunk
-    (falls c.args.edge c.args.text.now (joined chunks) c.rest.invariant.rise) c.loop-chunk-test.true c.index-chunks-chunk.is within c.place.ensures c.max-to.ensures
+    stopped_added (passes c.args.edge c.args.text.now) chunks c.loop-chunk.chunk c.loop-chunk.at c.place_or_end.result c.max-to.result chunk
+    (falls c.args.edge c.args.text.now (joined chunks) c.rest.invariant.rise) c.loop-chunk-test.true c.index-chunks-chunk.is within c.place_or_end.ensures c.max-to.ensures
     c.args.count c.args.beginning.now c.args.self.now c.loop-chunk.self c.add_part.new.self c.args.rest
     c.loop-chunk.invariant.added c.loop-chunk.invariant.left c.in_ok-add_part.ensures (omega (arith, c.if-to-len.true, c.len.ensures.len))
 
@@ -63,8 +63,8 @@ returns-then-to-len-clause-left c =
     let within : c.loop-chunk.at ≤ length chunk =
     subst (λ xs. c.loop-chunk.at ≤ length xs) (get_or_default chunks c.loop-chunk.chunk [] chunk c.loop-chunk-test.true ∙ sym c.index-chunks-chunk.is)
     (c.loop-chunk.invariant.inside c.loop-chunk-test.true) in
-    stopped_left (passes c.args.edge c.args.text.now) chunks c.loop-chunk.chunk c.loop-chunk.at c.place.result c.max-to.result chunk
-    (falls c.args.edge c.args.text.now (joined chunks) c.rest.invariant.rise) c.loop-chunk-test.true c.index-chunks-chunk.is within c.place.ensures c.max-to.ensures
+    stopped_left (passes c.args.edge c.args.text.now) chunks c.loop-chunk.chunk c.loop-chunk.at c.place_or_end.result c.max-to.result chunk
+    (falls c.args.edge c.args.text.now (joined chunks) c.rest.invariant.rise) c.loop-chunk-test.true c.index-chunks-chunk.is within c.place_or_end.ensures c.max-to.ensures
     c.args.count c.args.beginning.now c.args.self.now c.loop-chunk.self c.add_part.new.self c.args.rest
     c.loop-chunk.invariant.added c.loop-chunk.invariant.left c.in_ok-add_part.ensures (omega (arith, c.if-to-len.true, c.len.ensures.len))
 
@@ -81,12 +81,12 @@ loop-chunk-preserved c =
     record {
       inside = λ below. omega arith;
       added =
-          further_added p chunks c.loop-chunk.chunk c.loop-chunk.at c.place.result c.max-to.result chunk fall c.loop-chunk-test.true c.index-chunks-chunk.is within
-          c.place.ensures c.max-to.ensures c.args.count c.args.beginning.now c.args.self.now c.loop-chunk.self
+          further_added p chunks c.loop-chunk.chunk c.loop-chunk.at c.place_or_end.result c.max-to.result chunk fall c.loop-chunk-test.true c.index-chunks-chunk.is within
+          c.place_or_end.ensures c.max-to.ensures c.args.count c.args.beginning.now c.args.self.now c.loop-chunk.self
           c.add_part.new.self c.args.rest c.loop-chunk.invariant.added c.loop-chunk.invariant.left c.in_ok-add_part.ensures all;
       left =
-          further_left p chunks c.loop-chunk.chunk c.loop-chunk.at c.place.result c.max-to.result chunk fall c.loop-chunk-test.true c.index-chunks-chunk.is within
-          c.place.ensures c.max-to.ensures c.args.count c.args.beginning.now c.args.self.now c.loop-chunk.self
+          further_left p chunks c.loop-chunk.chunk c.loop-chunk.at c.place_or_end.result c.max-to.result chunk fall c.loop-chunk-test.true c.index-chunks-chunk.is within
+          c.place_or_end.ensures c.max-to.ensures c.args.count c.args.beginning.now c.args.self.now c.loop-chunk.self
           c.add_part.new.self c.args.rest c.loop-chunk.invariant.added c.loop-chunk.invariant.left c.in_ok-add_part.ensures all;
     }
 

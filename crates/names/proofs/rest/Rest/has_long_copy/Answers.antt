@@ -17,8 +17,8 @@ loop-chunk-init c = record {
   done = ap (λ es. list_any (λ e. is_long_copy c.args.most c.args.from.now c.args.to.now e.0) (filter (passes AfterUnder c.args.from.now) es)) c.self.view_is;
 }
 
-pub place-requires : goal.place-requires
-place-requires c =
+pub place_or_end-requires : goal.place_or_end-requires
+place_or_end-requires c =
     let p = passes AfterUnder c.args.from.now in
     let chunks = c.self.inside.chunks.now in
     subst (Falls p) (sym c.index-chunks-chunk.is)
@@ -36,7 +36,7 @@ has_long_copy-requires-clause-order c = let most = c.max-end.ensures in omega (a
 pub has_long_copy-requires-clause-inside : goal.has_long_copy-requires-clause-inside
 has_long_copy-requires-clause-inside c =
     let most = c.max-end.ensures in
-    let place = c.place.ensures.inside in
+    let place = c.place_or_end.ensures.inside in
     let low = within c in
     omega (arith, most, place, low)
 
@@ -44,18 +44,18 @@ pub returns-then-has_long_copy : goal.returns-then-has_long_copy
 returns-then-has_long_copy c =
     let p = passes AfterUnder c.args.from.now in
     let chunks = c.self.inside.chunks.now in
-    some_long p (λ e. is_long_copy c.args.most c.args.from.now c.args.to.now e.0) chunks c.loop-chunk.chunk c.loop-chunk.at c.place.result c.max-end.result
+    some_long p (λ e. is_long_copy c.args.most c.args.from.now c.args.to.now e.0) chunks c.loop-chunk.chunk c.loop-chunk.at c.place_or_end.result c.max-end.result
     c.index-chunks-chunk.result (falls AfterUnder c.args.from.now (joined chunks) c.self.invariant.rise) c.loop-chunk-test.true c.index-chunks-chunk.is
-    (within (goal.at.returns-then-has_long_copy c).After-max-end) c.place.ensures c.max-end.ensures
+    (within (goal.at.returns-then-has_long_copy c).After-max-end) c.place_or_end.ensures c.max-end.ensures
     (list_any (λ e. is_long_copy c.args.most c.args.from.now c.args.to.now e.0) (filter p c.args.self)) c.loop-chunk.invariant.done (sym c.if-has_long_copy.ensures)
 
 pub returns-then-end-len : goal.returns-then-end-len
 returns-then-end-len c =
     let p = passes AfterUnder c.args.from.now in
     let chunks = c.self.inside.chunks.now in
-    none_long p (λ e. is_long_copy c.args.most c.args.from.now c.args.to.now e.0) chunks c.loop-chunk.chunk c.loop-chunk.at c.place.result c.max-end.result
+    none_long p (λ e. is_long_copy c.args.most c.args.from.now c.args.to.now e.0) chunks c.loop-chunk.chunk c.loop-chunk.at c.place_or_end.result c.max-end.result
     c.index-chunks-chunk.result (falls AfterUnder c.args.from.now (joined chunks) c.self.invariant.rise) c.loop-chunk-test.true c.index-chunks-chunk.is
-    (within (goal.at.returns-then-end-len c).After-max-end) c.place.ensures c.max-end.ensures
+    (within (goal.at.returns-then-end-len c).After-max-end) c.place_or_end.ensures c.max-end.ensures
     (list_any (λ e. is_long_copy c.args.most c.args.from.now c.args.to.now e.0) (filter p c.args.self)) c.loop-chunk.invariant.done (sym c.if-has_long_copy.ensures)
     (omega (arith, c.if-end-len.true, c.len.ensures.len))
 
@@ -66,9 +66,9 @@ loop-chunk-preserved c =
     record {
       inside = λ below. omega arith;
       done =
-          further_long p (λ e. is_long_copy c.args.most c.args.from.now c.args.to.now e.0) chunks c.loop-chunk.chunk c.loop-chunk.at c.place.result c.max-end.result
+          further_long p (λ e. is_long_copy c.args.most c.args.from.now c.args.to.now e.0) chunks c.loop-chunk.chunk c.loop-chunk.at c.place_or_end.result c.max-end.result
           c.index-chunks-chunk.result (falls AfterUnder c.args.from.now (joined chunks) c.self.invariant.rise) c.loop-chunk-test.true c.index-chunks-chunk.is
-          (within (goal.at.loop-chunk-preserved c).After-max-end) c.place.ensures c.max-end.ensures
+          (within (goal.at.loop-chunk-preserved c).After-max-end) c.place_or_end.ensures c.max-end.ensures
           (list_any (λ e. is_long_copy c.args.most c.args.from.now c.args.to.now e.0) (filter p c.args.self)) c.loop-chunk.invariant.done
           (sym c.if-has_long_copy.ensures);
     }
