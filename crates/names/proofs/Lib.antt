@@ -14,3 +14,4 @@ pub mod PutLemmas
 pub mod NumberLemmas
 pub mod LongLemmas
 pub mod ChosenLemmas
+pub mod RunLemmas

@@ -67,11 +67,12 @@ impl Chunk {
         ensures { IfOk result (λ chunk. chunk ≡ draft) }
     {
         let Draft {
-            names,
+            stem,
+            rests,
             contents,
             bytes,
         } = draft;
-        let (prefix, suffixes) = shortened(alloc, names)?;
+        let (prefix, suffixes) = shortened(alloc, stem, rests)?;
         let (oldest, newest) = range_of(&contents);
         let body = Body {
             suffixes,
@@ -143,6 +144,13 @@ impl Chunk {
         ensures { (d : Entry) → (get_or self.now at d).0 ≡ result.0.now ++ result.1.now }
     {
         (self.prefix.as_slice(), self.body.suffixes.at(at))
+    }
+
+    /// What all names begin with, and what comes behind that in each.
+    pub(crate) fn parts(&self) -> (&[u8], &Texts)
+        ensures { with_prefix result.0.now result.1.now ≡ map (λ e. e.0) self.now }
+    {
+        (self.prefix.as_slice(), &self.body.suffixes)
     }
 
     /// The name at a place, in one piece. An `Err` means that memory ran out.
@@ -410,18 +418,27 @@ fn begun_text(
     ArcSlice::from_vec(bytes)
 }
 
-/// What the names begin with, and what is left of them. The names rise, so it is what the first one and the last one begin with.
-fn shortened(alloc: Global, names: Texts) -> Result<(ArcSlice<u8>, Texts), AllocError>
-    requires { 0 < length names }
-    ensures { IfOk result (λ parts. with_prefix (arc_slice_items parts.0) parts.1 ≡ names) }
+/// What the names begin with that begin with the stem and go on with the rests, and what is left of them. The names rise, so it is
+/// what the first one and the last one begin with.
+fn shortened(
+    alloc: Global,
+    stem: Vec<u8>,
+    rests: Texts,
+) -> Result<(ArcSlice<u8>, Texts), AllocError>
+    requires { 0 < length rests }
+    ensures { IfOk result (λ parts. with_prefix (arc_slice_items parts.0) parts.1 ≡ with_prefix stem.items rests) }
 {
-    let prefix = ArcSlice::from_slice(alloc, common(names.at(0), names.at(names.len() - 1)))?;
-    match without(alloc, &names, prefix.as_slice())? {
-        Some(suffixes) => Ok((prefix, suffixes)),
-        None => {
-            let prefix = ArcSlice::from_slice(alloc, &[])?;
-            Ok((prefix, names))
+    let more = Vec::from_slice(alloc, common(rests.at(0), rests.at(rests.len() - 1)))?;
+    if more.is_empty() {
+        return Ok((ArcSlice::from_vec(stem)?, rests));
+    }
+    match without(alloc, &rests, more.as_slice())? {
+        Some(suffixes) => {
+            let mut prefix = stem;
+            prefix.extend_from_slice(more.as_slice())?;
+            Ok((ArcSlice::from_vec(prefix)?, suffixes))
         }
+        None => Ok((ArcSlice::from_vec(stem)?, rests)),
     }
 }
 

@@ -1,6 +1,7 @@
 //! Texts one after the other.
 
 ghost use Rattle.std.specs.Prelude.{◌≡◌, ◌-◌, ◌<◌, ◌≤◌, [], ◌∷◌, ◌++◌, get_or, length, take, drop, IfOk};
+ghost use Rattle.names.specs.Private.Entries.{with_prefix};
 
 use std::alloc::{AllocError, Global};
 use std::marker::Model;
@@ -50,6 +51,40 @@ impl Texts {
             Err(_) => return Err(AllocError),
         }
         Ok(Texts { text, ends })
+    }
+
+    /// The texts with others from one place on and before another one behind them, each of these behind this text. An `Err` is as
+    /// that of `with`.
+    pub(crate) fn with_begun(
+        self,
+        beginning: &[u8],
+        others: &Texts,
+        from: usize,
+        to: usize,
+    ) -> Result<Texts, AllocError>
+        requires order { from ≤ to }
+        requires inside { to ≤ length others.now }
+        ensures { IfOk result (λ texts. texts ≡ self ++ with_prefix beginning.now (drop from (take to others.now))) }
+    {
+        let mut texts = self;
+        for at in from..to {
+            texts = texts.with(beginning, others.at(at), &[])?;
+        }
+        Ok(texts)
+    }
+
+    /// The texts with others from one place on and before another one behind them. An `Err` is as that of `with`.
+    pub(crate) fn with_run(
+        self,
+        others: &Texts,
+        from: usize,
+        to: usize,
+    ) -> Result<Texts, AllocError>
+        requires order { from ≤ to }
+        requires inside { to ≤ length others.now }
+        ensures { IfOk result (λ texts. texts ≡ self ++ drop from (take to others.now)) }
+    {
+        self.with_begun(&[], others, from, to)
     }
 
     /// How many there are.
