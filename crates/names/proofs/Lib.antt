@@ -15,3 +15,4 @@ pub mod NumberLemmas
 pub mod LongLemmas
 pub mod ChosenLemmas
 pub mod RunLemmas
+pub mod MovedLemmas

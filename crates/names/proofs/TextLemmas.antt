@@ -15,7 +15,7 @@ pub length-parts : (text : List ℕ) (from : ℕ) (ends : List ℕ) → length (
 length-parts text from [] = refl
 length-parts text from (end ∷ ends) = ap suc (length-parts text end ends)
 
-part-append : (text more : List ℕ) (from end : ℕ) → from ≤ end → end ≤ length text → take (end - from) (drop from (text ++ more)) ≡ take (end - from) (drop from text)
+pub part-append : (text more : List ℕ) (from end : ℕ) → from ≤ end → end ≤ length text → take (end - from) (drop from (text ++ more)) ≡ take (end - from) (drop from text)
 part-append text more from end order inside =
     ap (take (end - from)) (drop-append-le from text more (omega arith))
     ∙ take-append-le (end - from) (drop from text) more (omega (arith, length-drop from text))

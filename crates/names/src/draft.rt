@@ -150,7 +150,8 @@ fn with_name(
     second: &[u8],
     third: &[u8],
 ) -> Result<(Vec<u8>, Texts), AllocError>
-    ensures { IfOk result (λ names. with_prefix names.0.items names.1 ≡ with_prefix stem.items rests ++ (first.now ++ (second.now ++ third.now)) ∷ []) }
+    ensures { IfOk result (λ names. with_prefix names.0.items names.1
+        ≡ with_prefix stem.items rests ++ (first.now ++ (second.now ++ third.now)) ∷ []) }
 {
     if first.starts_with(stem.as_slice()) {
         let rests = rests.with(&first[stem.len()..], second, third)?;
@@ -173,7 +174,8 @@ fn with_names(
 ) -> Result<(Vec<u8>, Texts), AllocError>
     requires order { from ≤ to }
     requires inside { to ≤ length suffixes.now }
-    ensures { IfOk result (λ names. with_prefix names.0.items names.1 ≡ with_prefix stem.items rests ++ with_prefix prefix.now (drop from (take to suffixes.now))) }
+    ensures { IfOk result (λ names. with_prefix names.0.items names.1
+        ≡ with_prefix stem.items rests ++ with_prefix prefix.now (drop from (take to suffixes.now))) }
 {
     let alloc = *stem.allocator();
     if rests.len() == 0 {

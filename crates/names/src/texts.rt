@@ -1,6 +1,6 @@
 //! Texts one after the other.
 
-ghost use Rattle.std.specs.Prelude.{◌≡◌, ◌-◌, ◌<◌, ◌≤◌, [], ◌∷◌, ◌++◌, get_or, length, take, drop, IfOk};
+ghost use Rattle.std.specs.Prelude.{◌≡◌, ◌+◌, ◌-◌, ◌<◌, ◌≤◌, ◌^◌, ℕ, [], ◌∷◌, ◌++◌, map, get_or, length, take, drop, IfOk, OnOk};
 ghost use Rattle.names.specs.Private.Entries.{with_prefix};
 
 use std::alloc::{AllocError, Global};
@@ -84,7 +84,16 @@ impl Texts {
         requires inside { to ≤ length others.now }
         ensures { IfOk result (λ texts. texts ≡ self ++ drop from (take to others.now)) }
     {
-        self.with_begun(&[], others, from, to)
+        let Texts { mut text, mut ends } = self;
+        let base = text.len();
+        let low = start(&others.ends, from);
+        let high = start(&others.ends, to);
+        text.extend_from_slice(piece(&others.text, low, high))?;
+        if text.len() > u32::MAX as usize {
+            return Err(AllocError);
+        }
+        push_moved(&mut ends, run_of(&others.ends, from, to), low, base)?;
+        Ok(Texts { text, ends })
     }
 
     /// How many there are.
@@ -114,6 +123,15 @@ fn piece(text: &[u8], from: usize, to: usize) -> &[u8]
     &text[from..to]
 }
 
+/// A part of some places.
+fn run_of(ends: &[u32], from: usize, to: usize) -> &[u32]
+    requires order { from ≤ to }
+    requires inside { to ≤ length ends.now }
+    ensures { result.now ≡ take (to - from) (drop from ends.now) }
+{
+    &ends[from..to]
+}
+
 /// Where the text at a place begins.
 fn start(ends: &[u32], at: usize) -> usize
     requires { at ≤ length ends.now }
@@ -123,4 +141,17 @@ fn start(ends: &[u32], at: usize) -> usize
         return 0;
     }
     ends[at - 1] as usize
+}
+
+/// Adds places, as they lie once the bytes before `low` are left out and `base` others come before them.
+fn push_moved(ends: &mut Vec<u32>, run: &[u32], low: usize, base: usize) -> Result<(), AllocError>
+    requires above { (k : ℕ) → k < length run.now → low ≤ get_or run.now k 0 }
+    requires fits { (k : ℕ) → k < length run.now → (get_or run.now k 0 - low) + base < 2 ^ 32 }
+    ensures { OnOk result (ends.new.items ≡ ends.old.items ++ map (λ e. (e - low) + base) run.now) }
+{
+    ends.reserve(run.len())?;
+    for end in run {
+        ends.push((*end as usize - low + base) as u32)?;
+    }
+    Ok(())
 }
