@@ -20,6 +20,7 @@ import sys
 import tempfile
 
 import copies
+from built import script_name
 from counted import Counted
 from growth import COUNTING, LEVEL, MOST
 
@@ -66,7 +67,7 @@ COUNTS = [("instructions", 50_000), ("requests for memory", 50), ("bytes request
 def run(command, env=None):
     done = subprocess.run(command, env=env, capture_output=True, text=True, timeout=SECONDS, check=False)
     if done.returncode != 0 or not re.fullmatch(r"\d+\n", done.stdout):
-        sys.exit(f"tests/index_growth.py: {command[-2:]} ends with status {done.returncode}, {done.stdout!r}, {done.stderr[-300:]!r}")
+        sys.exit(f"{script_name()}: {command[-2:]} ends with status {done.returncode}, {done.stdout!r}, {done.stderr[-300:]!r}")
     return done.stderr
 
 

@@ -13,7 +13,6 @@ Usage: tests/list_growth.py [--show]   The last line counts: N passed, M failed.
 import collections
 import concurrent.futures
 import os
-import re
 import subprocess
 import sys
 import tempfile
@@ -21,6 +20,7 @@ import tempfile
 import copies
 from counted import Counted
 from growth import COUNTING, LEVEL, MOST
+from index_growth import COUNTS, beyond
 
 # An operation, the one that makes what it is carried out on, N, and to how many times its work and memory may grow.
 Row = collections.namedtuple("Row", "operation base n most", defaults=(MOST,))
@@ -62,37 +62,9 @@ PAIRS = [
     Pair("like apart", "like", "set numbers", "set", 16_000, 1),
 ]
 
-# How long one run may take, also where other work has the processors.
-SECONDS = 1800
-
 # Operations, and how many bytes may be in use at once for each number of 4N: a set has a quarter more room than bytes, and eleven bytes.
 # Each of the sets of twenty numbers has a slot, a list and its room.
 BYTES_EACH = {"set": 1.3, "scores": 120}
-
-# What is counted, and how much of it is so little that it does not matter how it grew.
-COUNTS = [("instructions", 50_000), ("requests for memory", 50), ("bytes requested", 65_536), ("bytes in use at once", 65_536)]
-
-
-def run(command, env=None):
-    done = subprocess.run(command, env=env, capture_output=True, text=True, timeout=SECONDS, check=False)
-    if done.returncode != 0 or not re.fullmatch(r"\d+\n", done.stdout):
-        sys.exit(f"tests/list_growth.py: {command[-2:]} ends with status {done.returncode}, {done.stdout!r}, {done.stderr[-300:]!r}")
-    return done.stderr
-
-
-def counts_of(program, library, *words):
-    """What a run of the program on these words takes: instructions, requests, bytes, and bytes in use at once."""
-    words = [str(program), *map(str, words)]
-    tool = ["valgrind", "--tool=cachegrind", "--cache-sim=no", "--cachegrind-out-file=/dev/null"]
-    instructions = re.search(r"I +refs: +([\d,]+)", run([*tool, *words]))[1].replace(",", "")
-    told = re.search(r"counts ([\d ]+)", run(words, dict(os.environ, LD_PRELOAD=library)))[1].split()
-    return [int(instructions), *map(int, told[:3])]
-
-
-def beyond(program, library, row, n):
-    """What the operation takes beyond the making of what it is carried out on."""
-    whole, base = (counts_of(program, library, operation, n) for operation in (row.operation, row.base))
-    return [more - less for more, less in zip(whole, base)]
 
 
 def faults_of(program, library, row, show):
